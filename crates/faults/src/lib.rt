@@ -75,11 +75,8 @@ impl Cause {
     {
         match self {
             Cause::Length | Cause::Kind | Cause::FrameField => Layer::Frame,
-            Cause::Call
-            | Cause::ScriptField
-            | Cause::Number
-            | Cause::Order
-            | Cause::Size => Layer::Script,
+            Cause::Call | Cause::ScriptField | Cause::Number | Cause::Order | Cause::Size =>
+                Layer::Script,
             Cause::Shape | Cause::BookKey | Cause::Index | Cause::Depth => Layer::Book,
             _ => Layer::Net,
         }

@@ -1,0 +1,13 @@
+use mathlib.Core.Path.{_≡_}
+use native.Mathlib.Omega.{arith}
+use Prim.Native.Nat.{_-_, min}
+use lib.ListN.{length}
+use Rattle.frames.specs.Sizes.{lineLimit}
+use Rattle.frames.proofs.Listing.{front}
+use Rattle.frames.proofs.Drafts.as_slice.Needs as need
+
+pub returns : need.returns
+returns c =
+    let places : length (c .args .self .now .items) ≡ lineLimit = omega arith in
+    let e : c .min-n .result - 0 ≡ min (c .args .self .now .len) (length (c .args .self .now .items)) = omega (arith, c .min-n .ensures) in
+    record { value = front (c .args .self .now .items) (c .args .self .now .len) (c .min-n .result - 0) e; places = places }

@@ -1,0 +1,5 @@
+pub mod Listing
+pub mod Adding
+pub mod Cuts
+pub mod Inverse
+pub mod Back

@@ -1,0 +1,33 @@
+-- The sizes of a frame's parts in bytes, and the limits of its fields.
+use Prim.Native.Nat.{ℕ, _+_, _*_}
+use Rattle.clocks.specs.Clocks.{towerLimit}
+
+-- what stands before the clock
+abbrev pub headSize : ℕ
+headSize = 12
+
+abbrev pub entrySize : ℕ
+entrySize = 4
+
+abbrev pub lineSize : ℕ
+lineSize = 12
+
+-- the most lines of a frame
+abbrev pub lineLimit : ℕ
+lineLimit = 8
+
+-- transactions are numbered below this
+abbrev pub transactionLimit : ℕ
+transactionLimit = 1024
+
+-- a frame without lines whose clock has so many entries
+abbrev pub fixedSize : ℕ → ℕ
+fixedSize entries = headSize + entrySize * entries
+
+-- a frame of n lines
+abbrev pub frameSize : ℕ → ℕ → ℕ
+frameSize entries n = fixedSize entries + lineSize * n
+
+-- the longest frame
+abbrev pub mostBytes : ℕ
+mostBytes = frameSize towerLimit lineLimit
