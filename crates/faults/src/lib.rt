@@ -17,29 +17,29 @@ pub enum Layer {
 // What was wrong, by the word that is printed for it. Two causes have the word `field`: a frame's and a script's.
 #[derive(Clone, Copy)]
 pub enum Cause {
-    Tower = 1,
-    Unknown = 2,
-    Key = 3,
-    Phase = 4,
-    Full = 5,
-    Drafts = 6,
-    Air = 7,
-    Message = 8,
-    Early = 9,
-    List = 10,
-    Opening = 11,
-    Length = 20,
-    Kind = 21,
-    FrameField = 22,
-    Call = 30,
-    ScriptField = 31,
-    Number = 32,
-    Order = 33,
-    Size = 34,
-    Shape = 40,
-    BookKey = 41,
-    Index = 42,
-    Depth = 43,
+    Tower,
+    Unknown,
+    Key,
+    Phase,
+    Full,
+    Drafts,
+    Air,
+    Message,
+    Early,
+    List,
+    Opening,
+    Length,
+    Kind,
+    FrameField,
+    Call,
+    ScriptField,
+    Number,
+    Order,
+    Size,
+    Shape,
+    BookKey,
+    Index,
+    Depth,
 }
 
 // A fault: its cause, and the place where it was found. Only faults of a script's fields have a place other than 0.
@@ -63,52 +63,73 @@ impl Layer {
     }
 }
 
+// What the table has for a cause.
+#[derive(Clone, Copy)]
+struct Row {
+    number: u8,
+    layer: Layer,
+    word: &'static str,
+}
+
+impl Row {
+    fn new(number: u8, layer: Layer, word: &'static str) -> Row
+        ensures { λ r. ⌜ (r .number ≡ number) × (r .layer ≡ layer) × (now (r .word) ≡ now (word .entry)) ⌝ }
+    {
+        Row {
+            number,
+            layer,
+            word,
+        }
+    }
+}
+
 impl Cause {
+    fn row(self) -> Row
+        ensures { λ r. ⌜ (r .number ≡ rowOf self .number) × (r .layer ≡ rowOf self .layer) × (now (r .word) ≡ rowOf self .word) ⌝ }
+    {
+        match self {
+            Cause::Tower => Row::new(1, Layer::Net, "tower"),
+            Cause::Unknown => Row::new(2, Layer::Net, "unknown"),
+            Cause::Key => Row::new(3, Layer::Net, "key"),
+            Cause::Phase => Row::new(4, Layer::Net, "phase"),
+            Cause::Full => Row::new(5, Layer::Net, "full"),
+            Cause::Drafts => Row::new(6, Layer::Net, "drafts"),
+            Cause::Air => Row::new(7, Layer::Net, "air"),
+            Cause::Message => Row::new(8, Layer::Net, "message"),
+            Cause::Early => Row::new(9, Layer::Net, "early"),
+            Cause::List => Row::new(10, Layer::Net, "list"),
+            Cause::Opening => Row::new(11, Layer::Net, "opening"),
+            Cause::Length => Row::new(20, Layer::Frame, "length"),
+            Cause::Kind => Row::new(21, Layer::Frame, "kind"),
+            Cause::FrameField => Row::new(22, Layer::Frame, "field"),
+            Cause::Call => Row::new(30, Layer::Script, "call"),
+            Cause::ScriptField => Row::new(31, Layer::Script, "field"),
+            Cause::Number => Row::new(32, Layer::Script, "number"),
+            Cause::Order => Row::new(33, Layer::Script, "order"),
+            Cause::Size => Row::new(34, Layer::Script, "size"),
+            Cause::Shape => Row::new(40, Layer::Book, "shape"),
+            Cause::BookKey => Row::new(41, Layer::Book, "bookkey"),
+            Cause::Index => Row::new(42, Layer::Book, "index"),
+            Cause::Depth => Row::new(43, Layer::Book, "depth"),
+        }
+    }
+
     pub fn number(self) -> u8
         ensures { λ r. ⌜ r ≡ rowOf self .number ⌝ }
     {
-        self as u8
+        self.row().number
     }
 
     pub fn layer(self) -> Layer
         ensures { λ r. ⌜ r ≡ rowOf self .layer ⌝ }
     {
-        match self {
-            Cause::Length | Cause::Kind | Cause::FrameField => Layer::Frame,
-            Cause::Call | Cause::ScriptField | Cause::Number | Cause::Order | Cause::Size =>
-                Layer::Script,
-            Cause::Shape | Cause::BookKey | Cause::Index | Cause::Depth => Layer::Book,
-            _ => Layer::Net,
-        }
+        self.row().layer
     }
 
     pub fn word(self) -> &'static str
         ensures { λ r. ⌜ now r ≡ rowOf self .word ⌝ }
     {
-        match self {
-            Cause::Tower => "tower",
-            Cause::Unknown => "unknown",
-            Cause::Key => "key",
-            Cause::Phase => "phase",
-            Cause::Full => "full",
-            Cause::Drafts => "drafts",
-            Cause::Air => "air",
-            Cause::Message => "message",
-            Cause::Early => "early",
-            Cause::List => "list",
-            Cause::Opening => "opening",
-            Cause::Length => "length",
-            Cause::Kind => "kind",
-            Cause::FrameField | Cause::ScriptField => "field",
-            Cause::Call => "call",
-            Cause::Number => "number",
-            Cause::Order => "order",
-            Cause::Size => "size",
-            Cause::Shape => "shape",
-            Cause::BookKey => "bookkey",
-            Cause::Index => "index",
-            Cause::Depth => "depth",
-        }
+        self.row().word
     }
 }
 
