@@ -12,7 +12,7 @@ use Rattle.faults.specs.Table.{plain}
 use Rattle.faults.specs.declared.Fault.{Fault}
 use Rattle.faults.specs.declared.Cause.the-variants.{Number as NotNumber}
 use Rattle.frames.specs.Answers.{readOf}
-use Rattle.frames.specs.declared.Message.{Message}
+use Rattle.messages.specs.declared.Message.{Message}
 
 -- the digits 0 to 9 are the characters 48 to 57, and a to f are 97 to 102
 abbrev pub digitOf : ℕ → Option ℕ

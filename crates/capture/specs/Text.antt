@@ -11,9 +11,9 @@ use Rattle.std.specs.declared.result.Result.{Result}
 use Rattle.std.specs.declared.result.Result.the-variants.{Ok, Err}
 use Rattle.faults.specs.Text.{faultText}
 use Rattle.faults.specs.declared.Fault.{Fault}
-use Rattle.frames.specs.Table.{kindWord, kindOf, markOf, numberOf, linesOf}
-use Rattle.frames.specs.declared.Line.{Line}
-use Rattle.frames.specs.declared.Message.{Message}
+use Rattle.messages.specs.Table.{kindWord, kindOf, markOf, numberOf, linesOf}
+use Rattle.messages.specs.declared.Line.{Line}
+use Rattle.messages.specs.declared.Message.{Message}
 use Rattle.capture.specs.Hex.{said}
 
 unfoldable pub lineText : Line → List ℕ

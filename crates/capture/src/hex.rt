@@ -6,8 +6,8 @@ ghost use Rattle.std.specs.Vec.{made};
 ghost use Rattle.capture.specs.Hex.{digitOf, pairOf, spelled, said};
 use faults::Cause;
 use faults::Fault;
-use frames::Message;
 use frames::read;
+use messages::Message;
 use std::alloc::AllocError;
 use std::alloc::Global;
 

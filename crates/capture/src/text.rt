@@ -5,14 +5,14 @@ ghost use Rattle.std.specs.Of.String.{string-bytes};
 ghost use Rattle.std.specs.shelf.Lists.{joined};
 ghost use Rattle.std.specs.Vec.{made};
 ghost use Rattle.std.specs.Written.{decimal};
-ghost use Rattle.frames.specs.Table.{linesOf};
+ghost use Rattle.messages.specs.Table.{linesOf};
 ghost use Rattle.capture.specs.Text.{lineText, headText, nextEntry, clockText, messageText, saidText, unbroken, numbered, dumpText};
 use super::hex::interpret;
 use faults::Fault;
 use faults::FaultDisplay;
-use frames::Body;
-use frames::Line;
-use frames::Message;
+use messages::Body;
+use messages::Line;
+use messages::Message;
 use std::alloc::AllocError;
 use std::alloc::Global;
 

@@ -18,24 +18,26 @@ use Rattle.faults.specs.Table.{plain}
 use Rattle.faults.specs.declared.Fault.{Fault}
 use Rattle.faults.specs.declared.Cause.the-variants.{Length as WrongLength, Kind as WrongKind, FrameField as WrongField}
 use Rattle.clocks.specs.Clocks.{towerLimit}
-use Rattle.frames.specs.Sizes.{lineLimit, fixedSize, frameSize}
-use Rattle.frames.specs.Drafting.{counted}
-use Rattle.frames.specs.Table.{kindNumber, allows, kindOf, draftLine, linesOf}
+use Rattle.messages.specs.Limits.{lineLimit}
+use Rattle.frames.specs.Sizes.{fixedSize, frameSize}
+use Rattle.messages.specs.Drafting.{counted}
+use Rattle.messages.specs.Table.{kindNumber, kindAt, allows, kindOf, draftLine, linesOf}
 use Rattle.frames.specs.Layout.{frameOf}
-use Rattle.frames.specs.Rules.{fitDrafts, fitBody, valid, Places, Typed, HasFrame}
+use Rattle.messages.specs.Rules.{fitDrafts, fitBody, valid, Places, Typed, HasFrame}
 use Rattle.frames.specs.Candidate.{kindByte, countByte, messageAt}
-use Rattle.frames.specs.Answers.{framed, bytesOf, written, SizedAs, Reads, OneMessage, kindAt, sizedAs, sizedOf, same, isFrame, candidate, readAs, readOf}
-use Rattle.frames.specs.declared.Drafts.{Drafts}
-use Rattle.frames.specs.declared.Kind.{Kind}
-use Rattle.frames.specs.declared.Kind.the-variants.{Query as QueryKind, Answer as AnswerKind, Prepare as PrepareKind, Vote as VoteKind, Outcome as OutcomeKind}
-use Rattle.frames.specs.declared.Vote.the-variants.{Yes, No}
-use Rattle.frames.specs.declared.Outcome.the-variants.{Granted, Refused}
-use Rattle.frames.specs.declared.Body.{Body}
-use Rattle.frames.specs.declared.Body.the-variants.{Query, Answer, Prepare, Vote as Voted, Outcome as Decided}
-use Rattle.frames.specs.declared.Message.{Message}
+use Rattle.frames.specs.Answers.{framed, bytesOf, written, SizedAs, Reads, OneMessage, sizedAs, sizedOf, same, isFrame, candidate, readAs, readOf}
+use Rattle.messages.specs.declared.Drafts.{Drafts}
+use Rattle.messages.specs.declared.Kind.{Kind}
+use Rattle.messages.specs.declared.Kind.the-variants.{Query as QueryKind, Answer as AnswerKind, Prepare as PrepareKind, Vote as VoteKind, Outcome as OutcomeKind}
+use Rattle.messages.specs.declared.Vote.the-variants.{Yes, No}
+use Rattle.messages.specs.declared.Outcome.the-variants.{Granted, Refused}
+use Rattle.messages.specs.declared.Body.{Body}
+use Rattle.messages.specs.declared.Body.the-variants.{Query, Answer, Prepare, Vote as Voted, Outcome as Decided}
+use Rattle.messages.specs.declared.Message.{Message}
 use Rattle.frames.specs.declared.hold.Frame.{Frame}
+use Rattle.messages.proofs.Fitting.{few, count-is, rules-of}
 use Rattle.frames.proofs.Adding.{shown-bytes}
-use Rattle.frames.proofs.Inverse.{few, count-is, rules-of, frame-length, message-back}
+use Rattle.frames.proofs.Inverse.{frame-length, message-back}
 
 -- kinds and their numbers
 kind-at : (k : Kind) → kindAt (kindNumber k) ≡ Some k

@@ -15,7 +15,7 @@ module _ {X : Type 0} (g : List ℕ → X) (w : ℕ) where
   length-cut zero bs = refl
   length-cut (suc n) bs = ap suc (length-cut n (drop w bs))
 
-  cut-more : (n : ℕ) (bs : List ℕ) → cut g w (suc n) bs ≡ cut g w n bs ++ g (drop (w * n) bs) ∷ []
+  pub cut-more : (n : ℕ) (bs : List ℕ) → cut g w (suc n) bs ≡ cut g w n bs ++ g (drop (w * n) bs) ∷ []
   cut-more zero bs = ap (λ k. g (drop k bs) ∷ []) (sym (mul-zero w))
   cut-more (suc n) bs =
       let e : drop (w * n) (drop w bs) ≡ drop (w * suc n) bs = drop-drop (w * n) w bs ∙ ap (λ k. drop k bs) (omega (arith, mul-suc w n)) in

@@ -12,25 +12,26 @@ use Rattle.std.proofs.shelf.Tests.{and-parts, ltb-true, leb-true, eqb-true}
 use Rattle.std.specs.shelf.Lists.{joined, All}
 use Rattle.std.specs.declared.option.Option.the-variants.{Some, None}
 use Rattle.clocks.specs.Clocks.{towerLimit}
-use Rattle.frames.specs.Sizes.{entrySize, lineSize, lineLimit, transactionLimit, fixedSize, frameSize}
+use Rattle.messages.specs.Limits.{lineLimit, transactionLimit}
+use Rattle.frames.specs.Sizes.{entrySize, lineSize, fixedSize, frameSize}
 use Rattle.frames.specs.Bytes.{le2, le4, wordAt, halfAt, cut}
-use Rattle.frames.specs.Drafting.{counted, nothing, blank, draftsOf, Neat}
-use Rattle.frames.specs.Table.{draftLine, conflictLine, conflictMark, linesOf, kindOf, markOf, numberOf}
+use Rattle.messages.specs.Drafting.{counted, nothing, blank, draftsOf, Neat}
+use Rattle.messages.specs.Table.{draftLine, conflictLine, conflictMark, linesOf, kindOf, markOf, numberOf}
 use Rattle.frames.specs.Layout.{lineBytes, headOf, frameOf}
-use Rattle.frames.specs.Rules.{isBlank, allBlank, fitDrafts, fitBody, valid, TypedLine, Places, Typed, HasFrame}
+use Rattle.messages.specs.Rules.{isBlank, allBlank, fitDrafts, fitBody, valid, TypedLine, Places, Typed, HasFrame}
 use Rattle.frames.specs.Candidate.{lineAt, draftAt, draftsAt, clockAt, voteAt, bodyAt, messageAt}
-use Rattle.frames.specs.declared.Draft.{Draft}
-use Rattle.frames.specs.declared.Drafts.{Drafts}
-use Rattle.frames.specs.declared.Line.{Line}
-use Rattle.frames.specs.declared.Conflict.{Conflict}
-use Rattle.frames.specs.declared.Conflict.the-variants.{Held, Newer, Full}
-use Rattle.frames.specs.declared.Objection.{Objection}
-use Rattle.frames.specs.declared.Vote.the-variants.{Yes, No}
-use Rattle.frames.specs.declared.Outcome.the-variants.{Granted, Refused}
-use Rattle.frames.specs.declared.Body.{Body}
-use Rattle.frames.specs.declared.Body.the-variants.{Query, Answer, Prepare, Vote as Voted, Outcome as Decided}
-use Rattle.frames.specs.declared.Message.{Message}
-use Rattle.frames.proofs.Listing.{drafts-made}
+use Rattle.messages.specs.declared.Draft.{Draft}
+use Rattle.messages.specs.declared.Drafts.{Drafts}
+use Rattle.messages.specs.declared.Line.{Line}
+use Rattle.messages.specs.declared.Conflict.{Conflict}
+use Rattle.messages.specs.declared.Conflict.the-variants.{Held, Newer, Full}
+use Rattle.messages.specs.declared.Objection.{Objection}
+use Rattle.messages.specs.declared.Vote.the-variants.{Yes, No}
+use Rattle.messages.specs.declared.Outcome.the-variants.{Granted, Refused}
+use Rattle.messages.specs.declared.Body.{Body}
+use Rattle.messages.specs.declared.Body.the-variants.{Query, Answer, Prepare, Vote as Voted, Outcome as Decided}
+use Rattle.messages.specs.declared.Message.{Message}
+use Rattle.messages.proofs.Fitting.{neat, rules-of}
 use Rattle.frames.proofs.Cuts.{length-joined, cut-joined}
 
 -- numbers
@@ -56,35 +57,6 @@ clock-back e c r n h =
     ∙ cut-joined le4 entrySize (λ _. refl) (λ b. wordAt b 0) (λ v. v < 2 ^ 32) (λ v _ l. word-back v l) c r h
 
 -- drafts
-is-blank : (d : Draft) → isBlank d ≡ true → d ≡ blank
-is-blank d h =
-    let p = and-parts (eqb (d .key) 0) (eqb (d .content .value) 0) h in
-    let key : d .key ≡ 0 = eqb-true (d .key) 0 (p .0) in
-    let value : d .content .value ≡ 0 = eqb-true (d .content .value) 0 (p .1) in
-    ap (λ (k : ℕ). let r : Draft = record { key = k; content = d .content } in r) key
-    ∙ ap (λ (v : ℕ). let r : Draft = record { key = 0; content = record { value = v } } in r) value
-
-all-blank : (ds : List Draft) → allBlank ds ≡ true → ds ≡ replicate (length ds) blank
-all-blank [] h = refl
-all-blank (d ∷ ds) h =
-    let p = and-parts (isBlank d) (allBlank ds) h in
-    ap (λ x. x ∷ ds) (is-blank d (p .0)) ∙ ap (λ xs. blank ∷ xs) (all-blank ds (p .1))
-
-module _ (d : Drafts) (fit : fitDrafts d ≡ true) (places : length (d .items) ≡ lineLimit) where
-  pub few : d .len ≤ lineLimit
-  few = leb-true (d .len) lineLimit (and-parts (leb (d .len) lineLimit) (allBlank (drop (d .len) (d .items))) fit .0)
-
-  pub count-is : length (counted d) ≡ d .len
-  count-is = length-take-le (d .len) (d .items) (omega (arith, few))
-
-  pub neat : Neat d
-  neat =
-      let rest : List Draft = drop (d .len) (d .items) in
-      let n : length rest ≡ lineLimit - length (counted d) = simp length-drop (omega (arith, count-is)) in
-      let blanks : rest ≡ replicate (lineLimit - length (counted d)) blank =
-      all-blank rest (and-parts (leb (d .len) lineLimit) (allBlank rest) fit .1) ∙ ap (λ k. replicate k blank) n in
-      drafts-made (d .items) (d .len) (counted d) (sym (take-append-drop (d .len) (d .items)) ∙ ap (λ q. counted d ++ q) blanks) (sym count-is)
-
 joined-lines : (ds : List Draft) → joined lineBytes (map draftLine ds) ≡ joined (λ d. lineBytes (draftLine d)) ds
 joined-lines [] = refl
 joined-lines (d ∷ ds) = ap (λ r. lineBytes (draftLine d) ++ r) (joined-lines ds)
@@ -124,19 +96,6 @@ body-back (Voted Yes) h p t = refl
 body-back (Voted (No o)) h p t = ap (λ v. Voted v) (vote-back (o .key) (o .conflict) (t .0))
 body-back (Decided (Granted n d)) h p t = ap (λ x. Decided (Granted n x)) (drafts-back d (and-parts (leb 1 n) (fitDrafts d) h .1) p t)
 body-back (Decided Refused) h p t = refl
-
--- the rules of a message, one by one
-pub record Rules (m : Message) : Type 0 where
-  pub tx : m .tx < transactionLimit
-  pub body : fitBody (m .body) ≡ true
-
-pub rules-of : (m : Message) → valid m ≡ true → Rules m
-unfolding valid
-rules-of m h =
-    let a = and-parts (ltb (m .sender) towerLimit) (ltb (m .receiver) towerLimit && (ltb (m .tx) transactionLimit && fitBody (m .body))) h in
-    let b = and-parts (ltb (m .receiver) towerLimit) (ltb (m .tx) transactionLimit && fitBody (m .body)) (a .1) in
-    let c = and-parts (ltb (m .tx) transactionLimit) (fitBody (m .body)) (b .1) in
-    record { tx = ltb-true (m .tx) transactionLimit (c .0); body = c .1 }
 
 -- the length of a frame
 pub frame-length : (m : Message) (e : ℕ) → length (m .clock .entries) ≡ e → length (frameOf m) ≡ frameSize e (length (linesOf (m .body)))

@@ -1,4 +1,3 @@
-pub mod Listing
 pub mod Adding
 pub mod Cuts
 pub mod Inverse

@@ -14,13 +14,12 @@ use Rattle.faults.specs.declared.Fault.{Fault}
 use Rattle.faults.specs.declared.Cause.the-variants.{Length as WrongLength, Kind as WrongKind, FrameField as WrongField}
 use Rattle.clocks.specs.Clocks.{towerLimit}
 use Rattle.frames.specs.Sizes.{fixedSize, frameSize, mostBytes}
-use Rattle.frames.specs.Table.{kindNumber, allows}
+use Rattle.messages.specs.Table.{kindNumber, kindAt, allows}
 use Rattle.frames.specs.Layout.{frameOf}
-use Rattle.frames.specs.Rules.{valid, HasFrame}
+use Rattle.messages.specs.Rules.{valid, HasFrame}
 use Rattle.frames.specs.Candidate.{messageAt, kindByte, countByte}
-use Rattle.frames.specs.declared.Kind.{Kind}
-use Rattle.frames.specs.declared.Kind.the-variants.{Query as QueryKind, Answer as AnswerKind, Prepare as PrepareKind, Vote as VoteKind, Outcome as OutcomeKind}
-use Rattle.frames.specs.declared.Message.{Message}
+use Rattle.messages.specs.declared.Kind.{Kind}
+use Rattle.messages.specs.declared.Message.{Message}
 use Rattle.frames.specs.declared.hold.Frame.{Frame}
 
 -- the frame that has these bytes, with zeros past them, and the bytes of a frame
@@ -53,14 +52,6 @@ abbrev pub OneMessage : Type 0
 OneMessage = (a b : Message) → HasFrame a → HasFrame b → frameOf a ≡ frameOf b → a ≡ b
 
 -- the same as a function: the kind, if the length fits; then the only candidate, if its frame has these bytes
-abbrev pub kindAt : ℕ → Option Kind
-kindAt byte =
-    cond (eqb byte 1) (Some QueryKind)
-    (cond (eqb byte 2) (Some AnswerKind)
-    (cond (eqb byte 3) (Some PrepareKind)
-    (cond (eqb byte 4) (Some VoteKind)
-    (cond (eqb byte 5) (Some OutcomeKind) None))))
-
 abbrev pub sizedAs : List ℕ → Option Kind → Result Kind Fault
 sizedAs bs None = Err (plain WrongKind)
 sizedAs bs (Some k) = cond (allows k (countByte bs) && eqb (length bs) (frameSize towerLimit (countByte bs))) (Ok k) (Err (plain WrongLength))

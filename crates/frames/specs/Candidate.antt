@@ -9,22 +9,22 @@ use Rattle.std.specs.declared.option.Option.the-variants.{Some, None}
 use Rattle.clocks.specs.declared.Version.{Version}
 use Rattle.frames.specs.Sizes.{headSize, entrySize, lineSize, fixedSize}
 use Rattle.frames.specs.Bytes.{halfAt, wordAt, cut}
-use Rattle.frames.specs.Drafting.{draftsOf}
-use Rattle.frames.specs.declared.Draft.{Draft}
-use Rattle.frames.specs.declared.Drafts.{Drafts}
-use Rattle.frames.specs.declared.Line.{Line}
-use Rattle.frames.specs.declared.Conflict.{Conflict}
-use Rattle.frames.specs.declared.Conflict.the-variants.{Held, Newer, Full}
-use Rattle.frames.specs.declared.Objection.{Objection}
-use Rattle.frames.specs.declared.Vote.{Vote}
-use Rattle.frames.specs.declared.Vote.the-variants.{Yes, No}
-use Rattle.frames.specs.declared.Outcome.{Outcome}
-use Rattle.frames.specs.declared.Outcome.the-variants.{Granted, Refused}
-use Rattle.frames.specs.declared.Kind.{Kind}
-use Rattle.frames.specs.declared.Kind.the-variants.{Query as QueryKind, Answer as AnswerKind, Prepare as PrepareKind, Vote as VoteKind, Outcome as OutcomeKind}
-use Rattle.frames.specs.declared.Body.{Body}
-use Rattle.frames.specs.declared.Body.the-variants.{Query, Answer, Prepare, Vote as Voted, Outcome as Decided}
-use Rattle.frames.specs.declared.Message.{Message}
+use Rattle.messages.specs.Drafting.{draftsOf}
+use Rattle.messages.specs.declared.Draft.{Draft}
+use Rattle.messages.specs.declared.Drafts.{Drafts}
+use Rattle.messages.specs.declared.Line.{Line}
+use Rattle.messages.specs.declared.Conflict.{Conflict}
+use Rattle.messages.specs.declared.Conflict.the-variants.{Held, Newer, Full}
+use Rattle.messages.specs.declared.Objection.{Objection}
+use Rattle.messages.specs.declared.Vote.{Vote}
+use Rattle.messages.specs.declared.Vote.the-variants.{Yes, No}
+use Rattle.messages.specs.declared.Outcome.{Outcome}
+use Rattle.messages.specs.declared.Outcome.the-variants.{Granted, Refused}
+use Rattle.messages.specs.declared.Kind.{Kind}
+use Rattle.messages.specs.declared.Kind.the-variants.{Query as QueryKind, Answer as AnswerKind, Prepare as PrepareKind, Vote as VoteKind, Outcome as OutcomeKind}
+use Rattle.messages.specs.declared.Body.{Body}
+use Rattle.messages.specs.declared.Body.the-variants.{Query, Answer, Prepare, Vote as Voted, Outcome as Decided}
+use Rattle.messages.specs.declared.Message.{Message}
 
 abbrev pub lineAt : List ℕ → Line
 lineAt bs = record { key = getD bs 0 0; origin = getD bs 1 0; writer = halfAt bs 2; number = wordAt bs 4; content = record { value = wordAt bs 8 } }

@@ -4,9 +4,9 @@ use Prim.Native.Nat.{ℕ}
 use lib.ListN.{length}
 use Rattle.std.specs.shelf.Lists.{joined}
 use Rattle.frames.specs.Bytes.{le2, le4}
-use Rattle.frames.specs.Table.{kindNumber, kindOf, markOf, numberOf, linesOf}
-use Rattle.frames.specs.declared.Line.{Line}
-use Rattle.frames.specs.declared.Message.{Message}
+use Rattle.messages.specs.Table.{kindNumber, kindOf, markOf, numberOf, linesOf}
+use Rattle.messages.specs.declared.Line.{Line}
+use Rattle.messages.specs.declared.Message.{Message}
 
 abbrev pub lineBytes : Line → List ℕ
 lineBytes l = l .key ∷ l .origin ∷ (le2 (l .writer) ++ (le4 (l .number) ++ le4 (l .content .value)))

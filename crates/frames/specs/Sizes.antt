@@ -1,6 +1,7 @@
--- The sizes of a frame's parts in bytes, and the limits of its fields.
+-- The sizes of a frame's parts, in bytes.
 use Prim.Native.Nat.{ℕ, _+_, _*_}
 use Rattle.clocks.specs.Clocks.{towerLimit}
+use Rattle.messages.specs.Limits.{lineLimit}
 
 -- what stands before the clock
 abbrev pub headSize : ℕ
@@ -11,14 +12,6 @@ entrySize = 4
 
 abbrev pub lineSize : ℕ
 lineSize = 12
-
--- the most lines of a frame
-abbrev pub lineLimit : ℕ
-lineLimit = 8
-
--- transactions are numbered below this
-abbrev pub transactionLimit : ℕ
-transactionLimit = 1024
 
 -- a frame without lines whose clock has so many entries
 abbrev pub fixedSize : ℕ → ℕ

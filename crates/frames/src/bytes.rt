@@ -4,16 +4,16 @@ ghost use lib.ListN.{length};
 ghost use Prim.Native.Nat.{_≤_, _<_, _^_};
 ghost use Rattle.frames.specs.Bytes.{wordAt};
 ghost use Rattle.frames.specs.Sizes.{entrySize, lineSize};
-ghost use Rattle.frames.specs.Table.{numberOf};
+ghost use Rattle.messages.specs.Table.{numberOf};
 ghost use Rattle.frames.specs.Layout.{lineBytes, headOf};
-ghost use Rattle.frames.specs.Rules.{TypedLine};
+ghost use Rattle.messages.specs.Rules.{TypedLine};
 ghost use Rattle.frames.specs.Candidate.{lineAt, draftAt};
-use super::Draft;
 use super::HEAD;
 use super::LINE;
-use super::Line;
-use super::Message;
 use clocks::Content;
+use messages::Draft;
+use messages::Line;
+use messages::Message;
 
 // What stands before the clock.
 pub(crate) fn head_bytes(m: &Message) -> [u8; HEAD]

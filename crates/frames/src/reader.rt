@@ -8,26 +8,16 @@ ghost use Rattle.std.specs.declared.result.Result.the-variants.{Ok, Err};
 ghost use Rattle.faults.specs.Table.{plain};
 ghost use Rattle.faults.specs.declared.Cause.the-variants.{FrameField as WrongField};
 ghost use Rattle.clocks.specs.Clocks.{towerLimit};
-ghost use Rattle.frames.specs.Sizes.{headSize, entrySize, lineSize, lineLimit, fixedSize, frameSize};
-ghost use Rattle.frames.specs.Table.{allows};
-ghost use Rattle.frames.specs.Rules.{valid, Typed};
+ghost use Rattle.messages.specs.Limits.{lineLimit};
+ghost use Rattle.frames.specs.Sizes.{headSize, entrySize, lineSize, fixedSize, frameSize};
+ghost use Rattle.messages.specs.Table.{allows};
+ghost use Rattle.messages.specs.Rules.{valid, Typed};
 ghost use Rattle.frames.specs.Candidate.{countByte, draftsAt, clockAt, shownAt, conflictAt, voteAt, outcomeAt, bodyAt, messageAt};
 ghost use Rattle.frames.specs.Answers.{SizedAs, sizedOf, isFrame, readOf, Reads};
-use super::Body;
-use super::Conflict;
-use super::Draft;
-use super::Drafts;
 use super::ENTRY;
 use super::FIXED;
 use super::HEAD;
-use super::Kind;
 use super::LINE;
-use super::LINES;
-use super::Line;
-use super::Message;
-use super::Objection;
-use super::Outcome;
-use super::Vote;
 use super::bytes::draft_at;
 use super::bytes::line_at;
 use super::bytes::word_at;
@@ -37,6 +27,15 @@ use clocks::TOWERS;
 use clocks::Version;
 use faults::Cause;
 use faults::Fault;
+use messages::Body;
+use messages::Conflict;
+use messages::Drafts;
+use messages::Kind;
+use messages::Line;
+use messages::Message;
+use messages::Objection;
+use messages::Outcome;
+use messages::Vote;
 
 fn clock_at(b: &[u8]) -> Clock
     requires { ⌜ entrySize * towerLimit ≤ length (now b) ⌝ }
@@ -53,14 +52,11 @@ fn drafts_at(n: usize, b: &[u8]) -> Drafts
     requires { ⌜ n ≤ lineLimit ⌝ ∗ ⌜ lineSize * n ≤ length (now b) ⌝ }
     ensures { λ r. ⌜ r ≡ draftsAt n (now (b .entry)) ⌝ }
 {
-    let mut items = [Draft::blank(); LINES];
+    let mut drafts = Drafts::new();
     for i in 0..n {
-        items[i] = draft_at(&b[LINE * i..]);
+        let _ = drafts.push(draft_at(&b[LINE * i..]));
     }
-    Drafts {
-        items,
-        len: n as u8,
-    }
+    drafts
 }
 
 fn shown_at(mark: u8, line: &Line) -> Option<Version>

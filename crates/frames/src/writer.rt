@@ -8,20 +8,18 @@ ghost use Rattle.std.specs.Vec.{made};
 ghost use Rattle.clocks.specs.Clocks.{towerLimit};
 ghost use Rattle.frames.specs.Sizes.{entrySize, lineSize, fixedSize, mostBytes};
 ghost use Rattle.frames.specs.Bytes.{le4};
-ghost use Rattle.frames.specs.Table.{linesOf};
+ghost use Rattle.messages.specs.Table.{linesOf};
 ghost use Rattle.frames.specs.Layout.{lineBytes};
-ghost use Rattle.frames.specs.Rules.{TypedLine, Places, Typed};
+ghost use Rattle.messages.specs.Rules.{TypedLine, Places, Typed};
 ghost use Rattle.frames.specs.Answers.{framed, bytesOf, written, OneMessage};
-use super::Body;
-use super::Line;
 use super::MOST;
-use super::Message;
 use super::bytes::head_bytes;
 use super::bytes::line_bytes;
 use super::hold::Frame;
-use super::rules::is_valid;
 use faults::Cause;
 use faults::Fault;
+use messages::Body;
+use messages::Message;
 
 impl Frame {
     // A frame without bytes.
@@ -87,7 +85,7 @@ pub fn write(message: &Message) -> Result<Frame, Fault>
     ensures typed { λ r. ⌜ made r (λ _. Typed (now (message .entry))) ⌝ }
     ensures one { λ _. ⌜ OneMessage ⌝ }
 {
-    if !is_valid(message) {
+    if !message.is_valid() {
         return Err(Fault::plain(Cause::FrameField));
     }
     let mut frame = Frame::blank();

@@ -6,8 +6,8 @@ use lib.ListN.{length, getD, take}
 use Rattle.std.specs.Of.String.{string-bytes}
 use Rattle.std.specs.shelf.Lists.{joined}
 use Rattle.std.proofs.shelf.Lists.{take-all}
-use Rattle.frames.specs.Table.{linesOf}
-use Rattle.frames.proofs.Listing.{getD-nth, nth-some}
+use Rattle.messages.specs.Table.{linesOf}
+use Rattle.messages.proofs.Listing.{getD-nth, nth-some}
 use Rattle.capture.specs.Text.{lineText}
 use Rattle.capture.proofs.Listing.{joined-step}
 use Rattle.capture.proofs.text.add_lines.Needs as need

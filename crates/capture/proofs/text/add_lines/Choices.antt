@@ -3,7 +3,7 @@ use mathlib.Core.List.{_++_}
 use lib.ListN.{take}
 use Rattle.std.specs.Of.String.{string-bytes}
 use Rattle.std.specs.shelf.Lists.{joined}
-use Rattle.frames.specs.Table.{linesOf}
+use Rattle.messages.specs.Table.{linesOf}
 use Rattle.capture.specs.Text.{lineText}
 use Rattle.capture.proofs.text.add_lines.Given as given
 

@@ -4,7 +4,7 @@ use lib.Chars.{codes}
 use Prim.Native.Nat.{ℕ}
 use Rattle.std.specs.Of.String.{string-bytes}
 use Rattle.std.specs.shelf.Lists.{joined}
-use Rattle.frames.specs.Table.{linesOf}
+use Rattle.messages.specs.Table.{linesOf}
 use Rattle.capture.specs.Text.{headText, lineText, clockText}
 use Rattle.capture.proofs.Listing.{four}
 use Rattle.capture.proofs.text.message_text.Needs as need

@@ -1,27 +1,27 @@
 use mathlib.Core.Path.{_≡_, sym, ap, _∙_}
-use mathlib.Core.List.{List, _++_}
+use mathlib.Core.List.{List, [], _∷_, _++_}
+use native.Mathlib.Numerals.{add-one}
 use native.Mathlib.Omega.{arith}
-use Prim.Native.Nat.{_-_}
-use lib.ListN.{length, replicate}
-use Rattle.frames.specs.Sizes.{lineSize, lineLimit}
+use Prim.Native.Nat.{_+_, _*_, _<_}
+use lib.ListN.{length, drop}
+use Rattle.std.proofs.shelf.Lists.{take-rest}
+use Rattle.messages.specs.Limits.{lineLimit}
+use Rattle.messages.specs.Drafting.{draftsOf}
+use Rattle.messages.specs.declared.Draft.{Draft}
+use Rattle.messages.proofs.Listing.{pushed-on}
+use Rattle.frames.specs.Sizes.{lineSize}
 use Rattle.frames.specs.Bytes.{cut}
-use Rattle.frames.specs.Drafting.{blank}
 use Rattle.frames.specs.Candidate.{draftAt}
-use Rattle.frames.specs.declared.Draft.{Draft}
-use Rattle.frames.proofs.Cuts.{fill, length-cut}
-use Rattle.frames.proofs.Listing.{drafts-made}
+use Rattle.frames.proofs.Cuts.{cut-more, length-cut}
 use Rattle.frames.proofs.reader.drafts_at.Needs as need
 
 pub loop-i-again : need.loop-i-again
-loop-i-again c = fill draftAt lineSize lineLimit (c .loop-i .i) (c .args .b .now) blank _ _ (omega arith) (c .loop-i .inv) (c .draft-at .ensures)
-
-pub returns : need.returns
-returns c =
+loop-i-again c =
     let b = c .args .b .now in
-    let n = c .args .n in
-    let all : c .loop-i .i ≡ n = omega arith in
-    let ds : List Draft = cut draftAt lineSize n b in
-    let long : length ds ≡ n = length-cut draftAt lineSize n b in
-    drafts-made (c .loop-i .items) n ds
-    (c .loop-i .inv ∙ ap (λ k. cut draftAt lineSize k b ++ replicate (lineLimit - k) blank) all ∙ ap (λ k. ds ++ replicate (lineLimit - k) blank) (sym long))
-    (sym long)
+    let i = c .loop-i .i in
+    let ds : List Draft = cut draftAt lineSize i b in
+    let next : c .draft-at .result ≡ draftAt (drop (lineSize * i) b) = c .draft-at .ensures ∙ ap draftAt (take-rest b (lineSize * i)) in
+    let few : length ds < lineLimit = omega (arith, length-cut draftAt lineSize i b) in
+    pushed-on (c .loop-i .drafts) (c .push .last .self) (c .draft-at .result) (c .push .result) ds (c .push .ensures) (c .loop-i .inv) few
+    ∙ ap (λ d. draftsOf (ds ++ d ∷ [])) next
+    ∙ ap draftsOf (sym (cut-more draftAt lineSize i b) ∙ ap (λ n. cut draftAt lineSize n b) (sym (add-one i)))

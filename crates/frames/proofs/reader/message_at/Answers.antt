@@ -8,8 +8,8 @@ use Rattle.clocks.specs.declared.Clock.{Clock}
 use Rattle.frames.specs.Sizes.{headSize, fixedSize}
 use Rattle.frames.specs.Bytes.{wordAt, halfAt}
 use Rattle.frames.specs.Candidate.{clockAt, bodyAt, countByte}
-use Rattle.frames.specs.declared.Body.{Body}
-use Rattle.frames.specs.declared.Message.{Message}
+use Rattle.messages.specs.declared.Body.{Body}
+use Rattle.messages.specs.declared.Message.{Message}
 use Rattle.frames.proofs.reader.message_at.Needs as need
 
 pub returns : need.returns

@@ -5,7 +5,7 @@ use Rattle.std.specs.declared.result.Result.the-variants.{Ok, Err}
 use Rattle.faults.specs.Table.{plain}
 use Rattle.faults.specs.declared.Fault.{Fault}
 use Rattle.faults.specs.declared.Cause.the-variants.{FrameField as WrongField}
-use Rattle.frames.specs.declared.Message.{Message}
+use Rattle.messages.specs.declared.Message.{Message}
 use Rattle.std.proofs.shelf.Results.{err-from-errBy, made-from-err}
 use Rattle.frames.specs.Answers.{readOf}
 use Rattle.frames.proofs.Back.{read-answers, read-refused, read-candidate}

@@ -10,9 +10,9 @@ use Rattle.faults.specs.Table.{plain}
 use Rattle.faults.specs.declared.Fault.{Fault}
 use Rattle.faults.specs.declared.Cause.the-variants.{FrameField as WrongField}
 use Rattle.frames.specs.Bytes.{le4}
-use Rattle.frames.specs.Table.{linesOf}
+use Rattle.messages.specs.Table.{linesOf}
 use Rattle.frames.specs.Layout.{lineBytes, headOf, frameOf}
-use Rattle.frames.specs.Rules.{valid}
+use Rattle.messages.specs.Rules.{valid}
 use Rattle.frames.specs.Answers.{framed}
 use Rattle.frames.specs.declared.hold.Frame.{Frame}
 use Rattle.frames.proofs.Back.{one-message}

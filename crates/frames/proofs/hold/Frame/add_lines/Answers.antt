@@ -5,14 +5,14 @@ use Prim.Native.Nat.{_<_, _+_}
 use lib.ListN.{length, getD, take}
 use Rattle.std.specs.shelf.Lists.{joined, All}
 use Rattle.std.proofs.shelf.Lists.{take-all, take-more}
-use Rattle.frames.specs.Table.{linesOf}
+use Rattle.messages.specs.Table.{linesOf}
 use Rattle.frames.specs.Layout.{lineBytes}
-use Rattle.frames.specs.Rules.{TypedLine}
+use Rattle.messages.specs.Rules.{TypedLine}
 use Rattle.frames.specs.Answers.{framed}
 use Rattle.std.proofs.shelf.Elements.{all-more}
 use Rattle.frames.specs.declared.hold.Frame.{Frame}
 use Rattle.frames.proofs.Adding.{joined-step}
-use Rattle.frames.proofs.Listing.{getD-nth, nth-some}
+use Rattle.messages.proofs.Listing.{getD-nth, nth-some}
 use Rattle.frames.proofs.hold.Frame.add_lines.Needs as need
 use Rattle.frames.proofs.hold.Frame.add_lines.Needs.{in-Some, in-rest}
 

@@ -4,9 +4,9 @@ use Prim.Native.Nat.{ℕ, _+_, _*_}
 use lib.ListN.{take}
 use Rattle.std.specs.shelf.Lists.{joined, All}
 use Rattle.frames.specs.Sizes.{lineSize}
-use Rattle.frames.specs.Table.{linesOf}
+use Rattle.messages.specs.Table.{linesOf}
 use Rattle.frames.specs.Layout.{lineBytes}
-use Rattle.frames.specs.Rules.{TypedLine}
+use Rattle.messages.specs.Rules.{TypedLine}
 use Rattle.frames.specs.Answers.{framed}
 use Rattle.frames.proofs.hold.Frame.add_lines.Given as given
 

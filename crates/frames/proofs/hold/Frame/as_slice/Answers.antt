@@ -2,7 +2,7 @@ use mathlib.Core.Path.{_≡_}
 use native.Mathlib.Omega.{arith}
 use Prim.Native.Nat.{_-_, min}
 use lib.ListN.{length}
-use Rattle.frames.proofs.Listing.{front}
+use Rattle.messages.proofs.Listing.{front}
 use Rattle.frames.proofs.hold.Frame.as_slice.Needs as need
 
 pub returns : need.returns

@@ -9,9 +9,9 @@ use Rattle.faults.specs.Table.{plain}
 use Rattle.faults.specs.declared.Fault.{Fault}
 use Rattle.faults.specs.declared.Cause.the-variants.{Drafts as TooMany}
 use Rattle.clocks.specs.declared.Content.{Content}
-use Rattle.frames.specs.Sizes.{lineLimit}
-use Rattle.frames.specs.declared.Draft.{Draft}
-use Rattle.frames.specs.declared.Drafts.{Drafts}
+use Rattle.messages.specs.Limits.{lineLimit}
+use Rattle.messages.specs.declared.Draft.{Draft}
+use Rattle.messages.specs.declared.Drafts.{Drafts}
 
 -- the drafts that count, in their order
 abbrev pub counted : Drafts → List Draft

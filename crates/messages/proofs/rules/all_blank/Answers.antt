@@ -3,9 +3,9 @@ use mathlib.Core.Bool.{Bool, true, false, _&&_}
 use lib.ListN.{drop}
 use Prim.Native.Nat.{_+_}
 use Rattle.std.proofs.shelf.Lists.{at-drop-more, at-drop-all}
-use Rattle.frames.specs.Drafting.{blank}
-use Rattle.frames.specs.Rules.{allBlank}
-use Rattle.frames.proofs.rules.all_blank.Needs as need
+use Rattle.messages.specs.Drafting.{blank}
+use Rattle.messages.specs.Rules.{allBlank}
+use Rattle.messages.proofs.rules.all_blank.Needs as need
 
 pub loop-draft-again : need.loop-draft-again
 loop-draft-again c =

@@ -4,9 +4,9 @@ use Rattle.std.specs.Options.{mapped}
 use Rattle.std.specs.shelf.Maps.{nth}
 use Rattle.std.specs.declared.option.Option.the-variants.{Some, None}
 use Rattle.std.proofs.shelf.Maps.{nth-getD, nth-past}
-use Rattle.frames.specs.Table.{draftLine}
-use Rattle.frames.proofs.Listing.{nth-map}
-use Rattle.frames.proofs.Drafts.line.Needs as need
+use Rattle.messages.specs.Table.{draftLine}
+use Rattle.messages.proofs.Listing.{nth-map}
+use Rattle.messages.proofs.Drafts.line.Needs as need
 
 pub returns-in-Some : need.returns-in-Some
 returns-in-Some c =

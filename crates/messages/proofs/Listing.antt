@@ -6,16 +6,19 @@ use Prim.Native.Nat.{ℕ, zero, suc, _-_, _+_, _<_, _≤_, min}
 use native.Mathlib.Omega.{arith}
 use native.Mathlib.Numerals.{add-one}
 use lib.ListN.{length, take, drop, set, replicate, getD}
-use Rattle.std.proofs.shelf.Lists.{take-all, length-take, length-push, set-at, take-more-set}
+use Rattle.std.proofs.shelf.Lists.{take-all, take-at, length-take, length-push, set-at, take-more-set}
 use Rattle.std.proofs.shelf.Tests.{cases-lt}
 use Rattle.std.specs.Options.{mapped}
 use Rattle.std.specs.declared.option.Option.the-variants.{Some, None}
 use Rattle.std.proofs.shelf.Maps.{nth-getD}
 use Rattle.std.specs.shelf.Maps.{nth}
-use Rattle.frames.specs.Sizes.{lineLimit}
-use Rattle.frames.specs.Drafting.{counted, blank, draftsOf, Neat}
-use Rattle.frames.specs.declared.Draft.{Draft}
-use Rattle.frames.specs.declared.Drafts.{Drafts}
+use Rattle.messages.specs.Limits.{lineLimit}
+use Rattle.messages.specs.Drafting.{counted, blank, draftsOf, Neat, Pushed}
+use Rattle.std.specs.declared.result.Result.{Result}
+use Rattle.std.specs.declared.result.Result.the-variants.{Ok, Err}
+use Rattle.faults.specs.declared.Fault.{Fault}
+use Rattle.messages.specs.declared.Draft.{Draft}
+use Rattle.messages.specs.declared.Drafts.{Drafts}
 
 -- a part from the start that the end bounds
 pub front : {X : Type 0} (xs : List X) (n k : ℕ) → k ≡ min n (length xs) → take k xs ≡ take n xs
@@ -68,3 +71,16 @@ module _ {X : Type 0} (xs : List X) (i : ℕ) (less : i < length xs) where
 
   pub nth-some : nth xs i ≡ None → ⊥
   nth-some e = absent xs i less e
+
+-- the drafts of a list, and a list with one draft more
+pub counted-of : (ds : List Draft) → counted (draftsOf ds) ≡ ds
+counted-of ds = take-at ds (replicate (lineLimit - length ds) blank) (length ds) refl
+
+pub pushed-on : (s t : Drafts) (d : Draft) (r : Result (Unit {0}) Fault) (ds : List Draft) → Pushed s d r t → s ≡ draftsOf ds → length ds < lineLimit → t ≡ draftsOf (ds ++ d ∷ [])
+pushed-on s t d (Ok u) ds p e h =
+    let same : counted s ≡ ds = ap counted e ∙ counted-of ds in
+    let tidy : Neat s = e ∙ ap draftsOf (sym same) in
+    p .2 tidy ∙ ap draftsOf (p .1 ∙ ap (λ q. q ++ d ∷ []) same)
+pushed-on s t d (Err f) ds p e h =
+    let same : counted s ≡ ds = ap counted e ∙ counted-of ds in
+    absurd (let w : ⊥ = omega (arith, p .0, ap length same) in w)

@@ -2,7 +2,7 @@ use mathlib.Core.Path.{ap}
 use native.Mathlib.Omega.{arith}
 use lib.ListN.{length}
 use Rattle.std.proofs.shelf.Lists.{length-take}
-use Rattle.frames.proofs.Drafts.len.Needs as need
+use Rattle.messages.proofs.Drafts.len.Needs as need
 
 pub returns : need.returns
 returns c =

@@ -1,6 +1,6 @@
 use borrow.Author.Needs.{needs}
 use lib.ListN.{length-map}
-use Rattle.frames.proofs.Body.lines.Needs as need
+use Rattle.messages.proofs.Body.lines.Needs as need
 
 pub returns-in-Prepare : need.returns-in-Prepare
 returns-in-Prepare c = search (needs, length-map)

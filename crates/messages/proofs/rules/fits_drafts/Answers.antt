@@ -8,9 +8,9 @@ use lib.ListN.{drop}
 use mathlib.Core.Path.{sym}
 use Rattle.std.proofs.shelf.Lists.{take-all, length-drop}
 use Rattle.std.proofs.shelf.Tests.{le-leb}
-use Rattle.frames.specs.Sizes.{lineLimit}
-use Rattle.frames.specs.Rules.{allBlank}
-use Rattle.frames.proofs.rules.fits_drafts.Needs as need
+use Rattle.messages.specs.Limits.{lineLimit}
+use Rattle.messages.specs.Rules.{allBlank}
+use Rattle.messages.proofs.rules.fits_drafts.Needs as need
 
 pub returns-then-n-le-LINES : need.returns-then-n-le-LINES
 returns-then-n-le-LINES c =

@@ -1,13 +1,12 @@
-// The table of the kinds: what a frame has in each field for a message.
+// The table of the kinds: number, word, mark and lines of each message.
 ghost use mathlib.Core.Path.{_≡_};
 ghost use mathlib.Core.List.{[], _∷_};
 ghost use Prim.Native.Nat.{_≤_};
 ghost use lib.ListN.{length};
 ghost use Rattle.std.specs.shelf.Maps.{nth};
-ghost use Rattle.frames.specs.Sizes.{lineLimit};
-ghost use Rattle.frames.specs.Table.{kindNumber, kindWord, allows, kindOf, conflictMark, markOf, numberOf, keyLine, draftLine, shownLine, conflictLine, linesOf};
-ghost use Rattle.frames.specs.Rules.{Places};
-ghost use Rattle.frames.specs.Answers.{kindAt};
+ghost use Rattle.messages.specs.Limits.{lineLimit};
+ghost use Rattle.messages.specs.Table.{kindNumber, kindAt, kindWord, allows, kindOf, conflictMark, markOf, numberOf, keyLine, draftLine, shownLine, conflictLine, linesOf};
+ghost use Rattle.messages.specs.Rules.{Places};
 use super::Body;
 use super::Conflict;
 use super::Draft;
@@ -42,7 +41,7 @@ impl Kind {
     }
 
     // The kind that has a number.
-    pub(crate) fn of(number: u8) -> Option<Kind>
+    pub fn of(number: u8) -> Option<Kind>
         ensures { λ r. ⌜ r ≡ kindAt number ⌝ }
     {
         match number {
@@ -55,8 +54,8 @@ impl Kind {
         }
     }
 
-    // Whether frames of the kind may have n lines, whatever the mark.
-    pub(crate) fn allows(self, n: usize) -> bool
+    // Whether messages of the kind may have n lines, whatever the mark.
+    pub fn allows(self, n: usize) -> bool
         ensures { λ r. ⌜ r ≡ allows self n ⌝ }
     {
         match self {

@@ -2,9 +2,9 @@ use mathlib.Core.Path.{_≡_}
 use native.Mathlib.Omega.{arith}
 use Prim.Native.Nat.{_-_, min}
 use lib.ListN.{length}
-use Rattle.frames.specs.Sizes.{lineLimit}
-use Rattle.frames.proofs.Listing.{front}
-use Rattle.frames.proofs.Drafts.as_slice.Needs as need
+use Rattle.messages.specs.Limits.{lineLimit}
+use Rattle.messages.proofs.Listing.{front}
+use Rattle.messages.proofs.Drafts.as_slice.Needs as need
 
 pub returns : need.returns
 returns c =

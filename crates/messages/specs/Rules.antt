@@ -10,18 +10,18 @@ use Rattle.std.specs.declared.option.Option.{Option}
 use Rattle.std.specs.declared.option.Option.the-variants.{Some, None}
 use Rattle.clocks.specs.Clocks.{towerLimit}
 use Rattle.clocks.specs.declared.Version.{Version}
-use Rattle.frames.specs.Sizes.{lineLimit, transactionLimit}
-use Rattle.frames.specs.Table.{numberOf, linesOf}
-use Rattle.frames.specs.declared.Draft.{Draft}
-use Rattle.frames.specs.declared.Drafts.{Drafts}
-use Rattle.frames.specs.declared.Line.{Line}
-use Rattle.frames.specs.declared.Conflict.{Conflict}
-use Rattle.frames.specs.declared.Conflict.the-variants.{Held, Newer, Full}
-use Rattle.frames.specs.declared.Vote.the-variants.{Yes, No}
-use Rattle.frames.specs.declared.Outcome.the-variants.{Granted, Refused}
-use Rattle.frames.specs.declared.Body.{Body}
-use Rattle.frames.specs.declared.Body.the-variants.{Query, Answer, Prepare, Vote as Voted, Outcome as Decided}
-use Rattle.frames.specs.declared.Message.{Message}
+use Rattle.messages.specs.Limits.{lineLimit, transactionLimit}
+use Rattle.messages.specs.Table.{numberOf, linesOf}
+use Rattle.messages.specs.declared.Draft.{Draft}
+use Rattle.messages.specs.declared.Drafts.{Drafts}
+use Rattle.messages.specs.declared.Line.{Line}
+use Rattle.messages.specs.declared.Conflict.{Conflict}
+use Rattle.messages.specs.declared.Conflict.the-variants.{Held, Newer, Full}
+use Rattle.messages.specs.declared.Vote.the-variants.{Yes, No}
+use Rattle.messages.specs.declared.Outcome.the-variants.{Granted, Refused}
+use Rattle.messages.specs.declared.Body.{Body}
+use Rattle.messages.specs.declared.Body.the-variants.{Query, Answer, Prepare, Vote as Voted, Outcome as Decided}
+use Rattle.messages.specs.declared.Message.{Message}
 
 -- the writer of a version, and a version, as a frame can name them
 abbrev pub fitWriter : ℕ → ℕ → Bool

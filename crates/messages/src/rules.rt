@@ -1,6 +1,6 @@
-// The rules that a message keeps if it has a frame.
+// The rules that a message keeps.
 ghost use mathlib.Core.Path.{_≡_};
-ghost use Rattle.frames.specs.Rules.{fitWriter, fitVersion, isBlank, allBlank, fitDrafts, fitShown, fitConflict, fitBody, valid};
+ghost use Rattle.messages.specs.Rules.{fitWriter, fitVersion, isBlank, allBlank, fitDrafts, fitShown, fitConflict, fitBody, valid};
 use super::Body;
 use super::Conflict;
 use super::Draft;
@@ -84,12 +84,14 @@ fn fits_body(body: &Body) -> bool
     }
 }
 
-// Whether the message keeps the rules.
-pub(crate) fn is_valid(message: &Message) -> bool
-    ensures { λ r. ⌜ r ≡ valid (now (message .entry)) ⌝ }
-{
-    (message.sender as usize) < TOWERS
-        && (message.receiver as usize) < TOWERS
-        && message.tx < TRANSACTIONS
-        && fits_body(&message.body)
+impl Message {
+    // Whether the message keeps the rules, and so has a frame.
+    pub fn is_valid(&self) -> bool
+        ensures { λ r. ⌜ r ≡ valid (now (self .entry)) ⌝ }
+    {
+        (self.sender as usize) < TOWERS
+            && (self.receiver as usize) < TOWERS
+            && self.tx < TRANSACTIONS
+            && fits_body(&self.body)
+    }
 }

@@ -1,4 +1,4 @@
--- The table of the kinds: what stands in a frame for each message, field by field.
+-- The table of the kinds: what stands in the fields of each message.
 use mathlib.Core.List.{List, [], _∷_, map}
 use mathlib.Core.Bool.{Bool, cond, _&&_}
 use Prim.Native.Nat.{ℕ}
@@ -8,30 +8,39 @@ use Rattle.std.specs.declared.option.Option.{Option}
 use Rattle.std.specs.declared.option.Option.the-variants.{Some, None}
 use Rattle.clocks.specs.declared.Content.{Content}
 use Rattle.clocks.specs.declared.Version.{Version}
-use Rattle.frames.specs.Sizes.{lineLimit}
-use Rattle.frames.specs.Drafting.{nothing, counted}
-use Rattle.frames.specs.declared.Draft.{Draft}
-use Rattle.frames.specs.declared.Drafts.{Drafts}
-use Rattle.frames.specs.declared.Line.{Line}
-use Rattle.frames.specs.declared.Conflict.{Conflict}
-use Rattle.frames.specs.declared.Conflict.the-variants.{Held, Newer, Full}
-use Rattle.frames.specs.declared.Objection.{Objection}
-use Rattle.frames.specs.declared.Vote.{Vote}
-use Rattle.frames.specs.declared.Vote.the-variants.{Yes, No}
-use Rattle.frames.specs.declared.Outcome.{Outcome}
-use Rattle.frames.specs.declared.Outcome.the-variants.{Granted, Refused}
-use Rattle.frames.specs.declared.Kind.{Kind}
-use Rattle.frames.specs.declared.Kind.the-variants.{Query as QueryKind, Answer as AnswerKind, Prepare as PrepareKind, Vote as VoteKind, Outcome as OutcomeKind}
-use Rattle.frames.specs.declared.Body.{Body}
-use Rattle.frames.specs.declared.Body.the-variants.{Query, Answer, Prepare, Vote as Voted, Outcome as Decided}
+use Rattle.messages.specs.Limits.{lineLimit}
+use Rattle.messages.specs.Drafting.{nothing, counted}
+use Rattle.messages.specs.declared.Draft.{Draft}
+use Rattle.messages.specs.declared.Drafts.{Drafts}
+use Rattle.messages.specs.declared.Line.{Line}
+use Rattle.messages.specs.declared.Conflict.{Conflict}
+use Rattle.messages.specs.declared.Conflict.the-variants.{Held, Newer, Full}
+use Rattle.messages.specs.declared.Objection.{Objection}
+use Rattle.messages.specs.declared.Vote.{Vote}
+use Rattle.messages.specs.declared.Vote.the-variants.{Yes, No}
+use Rattle.messages.specs.declared.Outcome.{Outcome}
+use Rattle.messages.specs.declared.Outcome.the-variants.{Granted, Refused}
+use Rattle.messages.specs.declared.Kind.{Kind}
+use Rattle.messages.specs.declared.Kind.the-variants.{Query as QueryKind, Answer as AnswerKind, Prepare as PrepareKind, Vote as VoteKind, Outcome as OutcomeKind}
+use Rattle.messages.specs.declared.Body.{Body}
+use Rattle.messages.specs.declared.Body.the-variants.{Query, Answer, Prepare, Vote as Voted, Outcome as Decided}
 
--- the number and the word of a kind, and whether its frames may have n lines, whatever the mark
+-- the number and the word of a kind, and whether its messages may have n lines, whatever the mark
 abbrev pub kindNumber : Kind → ℕ
 kindNumber QueryKind = 1
 kindNumber AnswerKind = 2
 kindNumber PrepareKind = 3
 kindNumber VoteKind = 4
 kindNumber OutcomeKind = 5
+
+-- the kind that has a number
+abbrev pub kindAt : ℕ → Option Kind
+kindAt byte =
+    cond (eqb byte 1) (Some QueryKind)
+    (cond (eqb byte 2) (Some AnswerKind)
+    (cond (eqb byte 3) (Some PrepareKind)
+    (cond (eqb byte 4) (Some VoteKind)
+    (cond (eqb byte 5) (Some OutcomeKind) None))))
 
 abbrev pub kindWord : Kind → List ℕ
 kindWord QueryKind = codes "query"

@@ -1,8 +1,8 @@
 use native.Mathlib.Omega.{arith}
 use mathlib.Core.Path.{refl}
 use borrow.Author.Needs.{needs}
-use Rattle.frames.proofs.Listing.{push-counted, push-neat}
-use Rattle.frames.proofs.Drafts.push.Needs as need
+use Rattle.messages.proofs.Listing.{push-counted, push-neat}
+use Rattle.messages.proofs.Drafts.push.Needs as need
 
 pub returns : need.returns
 returns c =

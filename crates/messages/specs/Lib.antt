@@ -1,0 +1,4 @@
+pub mod Limits
+pub mod Drafting
+pub mod Table
+pub mod Rules
