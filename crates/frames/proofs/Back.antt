@@ -3,11 +3,11 @@ use mathlib.Core.Path.{_≡_, refl, sym, ap, _∙_, subst}
 use mathlib.Core.List.{List, [], _∷_, map}
 use mathlib.Core.Bool.{Bool, true, false, cond, _&&_}
 use mathlib.Core.Logic.{inl, inr}
-use Prim.Native.Nat.{ℕ, _<_, _≤_}
+use Prim.Native.Nat.{ℕ, _≤_}
 use native.Mathlib.Omega.{arith}
 use lib.Dec.{leb, ltb, eqb}
 use lib.ListN.{length, length-map}
-use Rattle.std.proofs.shelf.Tests.{true≢false, and-parts, and-from, and-left, cases-bool, leb-true, le-leb, lt-ltb, le-ltb, eqb-true, eq-eqb, ne-eqb, cond-true, cond-false}
+use Rattle.std.proofs.shelf.Tests.{true≢false, and-parts, and-from, and-left, cases-bool, le-leb, lt-ltb, le-ltb, eqb-true, eq-eqb, ne-eqb, cond-true, cond-false}
 use Rattle.std.specs.declared.option.Option.{Option}
 use Rattle.std.specs.declared.option.Option.the-variants.{Some, None}
 use Rattle.std.specs.Orderings.{Decides}
@@ -124,21 +124,23 @@ pub frame-is : (m : Message) (bs : List ℕ) → isFrame m bs ≡ true → (vali
 unfolding isFrame
 frame-is m bs h = let p = and-parts (valid m) (same (frameOf m) bs) h in (p .0, same-true (frameOf m) bs (p .1))
 
--- what reading answers, if the types of the fields hold of each message that it gives
+-- what reading answers, by the length and kind of the bytes
+read-by : (bs : List ℕ) (s : Result Kind Fault) → sizedOf bs ≡ s → readOf bs ≡ readAs bs s
+unfolding readOf
+read-by bs s e = ap (readAs bs) e
+
+-- a frame gives its message
+pub back : (bs : List ℕ) (m : Message) → HasFrame m → frameOf m ≡ bs → readOf bs ≡ Ok m
+back bs m h e =
+    let k : Kind = kindOf (m .body) in
+    let kind : sizedOf bs ≡ Ok k = ap sizedOf (sym e) ∙ frame-sized m h in
+    let same-message : messageAt towerLimit k bs ≡ m = ap (messageAt towerLimit k) (sym e) ∙ message-back m towerLimit (h .typed .entries) (h .typed) (h .rules) in
+    read-by bs (Ok k) kind
+    ∙ ap (λ x. candidate x bs) same-message
+    ∙ cond-true (isFrame m bs) (Ok m) (Err (plain WrongField)) (is-frame m bs (h .rules) e)
+
+-- nothing else gives one, if the types of the fields hold of each message that is read
 module _ (bs : List ℕ) (typed : (m : Message) → readOf bs ≡ Ok m → Typed m) where
-  read-by : (s : Result Kind Fault) → sizedOf bs ≡ s → readOf bs ≡ readAs bs s
-  unfolding readOf
-  read-by s e = ap (readAs bs) e
-
-  back : (m : Message) → HasFrame m → frameOf m ≡ bs → readOf bs ≡ Ok m
-  back m h e =
-      let k : Kind = kindOf (m .body) in
-      let kind : sizedOf bs ≡ Ok k = ap sizedOf (sym e) ∙ frame-sized m h in
-      let same-message : messageAt towerLimit k bs ≡ m = ap (messageAt towerLimit k) (sym e) ∙ message-back m towerLimit (h .typed .entries) (h .typed) (h .rules) in
-      read-by (Ok k) kind
-      ∙ ap (λ x. candidate x bs) same-message
-      ∙ cond-true (isFrame m bs) (Ok m) (Err (plain WrongField)) (is-frame m bs (h .rules) e)
-
   only-frame : (c m : Message) (b : Bool) → isFrame c bs ≡ b → _≡_ {A = Result Message Fault} (cond b (Ok c) (Err (plain WrongField))) (Ok m) → (valid m ≡ true) × (frameOf m ≡ bs)
   only-frame c m true f e = let is : c ≡ m = cc in subst (λ (x : Message). (valid x ≡ true) × (frameOf x ≡ bs)) is (frame-is c bs f)
   only-frame c m false f e = absurd (let z : _≡_ {A = ℕ} 0 1 = cc in let w : ⊥ = omega arith in w)
@@ -148,27 +150,27 @@ module _ (bs : List ℕ) (typed : (m : Message) → readOf bs ≡ Ok m → Typed
   only-by m (Ok k) e = only-frame (messageAt towerLimit k bs) m (isFrame (messageAt towerLimit k bs) bs) refl e
 
   only : (m : Message) → readOf bs ≡ Ok m → HasFrame m × (frameOf m ≡ bs)
-  only m e = let p = only-by m (sizedOf bs) (sym (read-by (sizedOf bs) refl) ∙ e) in (record { typed = typed m e; rules = p .0 }, p .1)
+  only m e = let p = only-by m (sizedOf bs) (sym (read-by bs (sizedOf bs) refl) ∙ e) in (record { typed = typed m e; rules = p .0 }, p .1)
 
   broken : (k : Kind) → sizedOf bs ≡ Ok k → ((m : Message) → HasFrame m → frameOf m ≡ bs → ⊥) → readOf bs ≡ Err (plain WrongField)
   broken k s none =
       let c : Message = messageAt towerLimit k bs in
       let other : isFrame c bs ≡ false = elim (cases-bool (isFrame c bs)) [
         | inl fits ↦
-            let told : readOf bs ≡ Ok c = read-by (Ok k) s ∙ cond-true (isFrame c bs) (Ok c) (Err (plain WrongField)) fits in
+            let told : readOf bs ≡ Ok c = read-by bs (Ok k) s ∙ cond-true (isFrame c bs) (Ok c) (Err (plain WrongField)) fits in
             let p = only c told in
             absurd (none c (p .0) (p .1))
         | inr fails ↦ fails
       ] in
-      read-by (Ok k) s ∙ cond-false (isFrame c bs) (Ok c) (Err (plain WrongField)) other
+      read-by bs (Ok k) s ∙ cond-false (isFrame c bs) (Ok c) (Err (plain WrongField)) other
 
   reads : Reads bs (readOf bs)
   reads = record {
-    back = back;
+    back = back bs;
     only = only;
-    short = λ h. read-by (Err (plain WrongLength)) (cond-true (ltb (length bs) (fixedSize towerLimit)) (Err (plain WrongLength)) (sizedAs bs (kindAt (kindByte bs))) (lt-ltb (length bs) (fixedSize towerLimit) h));
-    unknown = λ h none. read-by (Err (plain WrongKind)) (sized-by bs h None (no-kind (kindByte bs) none));
-    unsized = λ h k e s. read-by (Err (plain WrongLength)) (sized-not bs h k e s);
+    short = λ h. read-by bs (Err (plain WrongLength)) (cond-true (ltb (length bs) (fixedSize towerLimit)) (Err (plain WrongLength)) (sizedAs bs (kindAt (kindByte bs))) (lt-ltb (length bs) (fixedSize towerLimit) h));
+    unknown = λ h none. read-by bs (Err (plain WrongKind)) (sized-by bs h None (no-kind (kindByte bs) none));
+    unsized = λ h k e s. read-by bs (Err (plain WrongLength)) (sized-not bs h k e s);
     broken = λ h k e s none. broken k (sized-ok bs h k e s) none;
   }
 
@@ -181,17 +183,13 @@ read-answers bs r e t = subst (Reads bs) (sym e) (reads bs (typed-by bs r e t))
 
 -- how the code comes to the answer
 module _ (bs : List ℕ) where
-  read-as : (s : Result Kind Fault) → s ≡ sizedOf bs → readAs bs s ≡ readOf bs
-  unfolding readOf
-  read-as s e = ap (readAs bs) e
-
   pub read-refused : (f : Fault) → _≡_ {A = Result Kind Fault} (Err f) (sizedOf bs) → Err f ≡ readOf bs
-  read-refused f e = read-as (Err f) e
+  read-refused f e = sym (read-by bs (Err f) (sym e))
 
   pub read-candidate : (k : Kind) (m : Message) (b : Bool) → _≡_ {A = Result Kind Fault} (Ok k) (sizedOf bs) → m ≡ messageAt towerLimit k bs → b ≡ isFrame m bs → cond b (Ok m) (Err (plain WrongField)) ≡ readOf bs
   read-candidate k m b s e f =
       let pick : Bool → Result Message Fault = λ x. cond x (Ok m) (Err (plain WrongField)) in
-      ap pick f ∙ ap (λ x. candidate x bs) e ∙ read-as (Ok k) s
+      ap pick f ∙ ap (λ x. candidate x bs) e ∙ sym (read-by bs (Ok k) (sym s))
 
 -- two messages with one frame are one message
 pub one-message : OneMessage
@@ -229,9 +227,6 @@ pub unwritten-told : (m : Message) (bs : List ℕ) (f : Fault) → Err f ≡ wri
 unfolding isFrame
 unwritten-told m bs f w = sym (and-left (valid m) (same (frameOf m) bs) (frame-invalid m f (valid m) refl w))
 
--- a message that is written and read again
-pub sent-again : (m : Message) (f : Frame) (bs : List ℕ) (r : Result Message Fault) → Ok f ≡ written m → Typed m → bs ≡ bytesOf f → Reads bs r → r ≡ cond (valid m) (Ok m) (Err (plain WrongField))
-sent-again m f bs r w t s reads =
-    let p = frame-valid m f (valid m) refl w in
-    let bytes : frameOf m ≡ bs = sym (s ∙ shown-bytes f (frameOf m) (p .1)) in
-    reads .back m (record { typed = t; rules = p .0 }) bytes ∙ sym (cond-true (valid m) (Ok m) (Err (plain WrongField)) (p .0))
+-- what is written reads back
+pub written-back : (m : Message) (f : Frame) → HasFrame m → f ≡ framed (frameOf m) → readOf (bytesOf f) ≡ Ok m
+written-back m f h e = back (bytesOf f) m h (sym (shown-bytes f (frameOf m) e))

@@ -1,31 +1,28 @@
 -- What is taken from the frame of a message is that message.
-use mathlib.Core.Path.{_≡_, refl, sym, ap, _∙_, subst}
+use mathlib.Core.Path.{_≡_, refl, sym, ap, _∙_}
 use mathlib.Core.List.{List, [], _∷_, _++_, map, append-assoc, append-nil}
-use mathlib.Core.Bool.{Bool, true, false, _&&_}
-use Prim.Native.Nat.{ℕ, _-_, _+_, _*_, _/_, _%_, _<_, _≤_, _^_}
+use mathlib.Core.Bool.{true, false}
+use Prim.Native.Nat.{ℕ, _+_, _*_, _/_, _%_, _<_, _^_}
 use native.Mathlib.Omega.{arith}
-use lib.Dec.{leb, ltb, eqb}
-use lib.ListN.{length, take, drop, replicate, length-append, length-map}
-use Rattle.std.proofs.shelf.Lists.{drop-at, take-append-drop, length-take-le, length-drop}
+use lib.Dec.{leb}
+use lib.ListN.{length, drop, length-append, length-map}
+use Rattle.std.proofs.shelf.Lists.{drop-at}
 use Rattle.std.proofs.shelf.Bits.{shr-shr, div-below}
-use Rattle.std.proofs.shelf.Tests.{and-parts, ltb-true, leb-true, eqb-true}
+use Rattle.std.proofs.shelf.Tests.{and-parts}
 use Rattle.std.specs.shelf.Lists.{joined, All}
 use Rattle.std.specs.declared.option.Option.the-variants.{Some, None}
-use Rattle.clocks.specs.Clocks.{towerLimit}
-use Rattle.messages.specs.Limits.{lineLimit, transactionLimit}
+use Rattle.messages.specs.Limits.{lineLimit}
 use Rattle.frames.specs.Sizes.{entrySize, lineSize, fixedSize, frameSize}
-use Rattle.frames.specs.Bytes.{le2, le4, wordAt, halfAt, cut}
-use Rattle.messages.specs.Drafting.{counted, nothing, blank, draftsOf, Neat}
+use Rattle.frames.specs.Bytes.{le4, wordAt, cut}
+use Rattle.messages.specs.Drafting.{counted, draftsOf}
 use Rattle.messages.specs.Table.{draftLine, conflictLine, conflictMark, linesOf, kindOf, markOf, numberOf}
 use Rattle.frames.specs.Layout.{lineBytes, headOf, frameOf}
-use Rattle.messages.specs.Rules.{isBlank, allBlank, fitDrafts, fitBody, valid, TypedLine, Places, Typed, HasFrame}
-use Rattle.frames.specs.Candidate.{lineAt, draftAt, draftsAt, clockAt, voteAt, bodyAt, messageAt}
+use Rattle.messages.specs.Rules.{fitDrafts, fitBody, valid, TypedLine, Places, Typed}
+use Rattle.frames.specs.Candidate.{draftAt, draftsAt, clockAt, voteAt, bodyAt, messageAt}
 use Rattle.messages.specs.declared.Draft.{Draft}
 use Rattle.messages.specs.declared.Drafts.{Drafts}
-use Rattle.messages.specs.declared.Line.{Line}
 use Rattle.messages.specs.declared.Conflict.{Conflict}
 use Rattle.messages.specs.declared.Conflict.the-variants.{Held, Newer, Full}
-use Rattle.messages.specs.declared.Objection.{Objection}
 use Rattle.messages.specs.declared.Vote.the-variants.{Yes, No}
 use Rattle.messages.specs.declared.Outcome.the-variants.{Granted, Refused}
 use Rattle.messages.specs.declared.Body.{Body}

@@ -15,7 +15,6 @@ use Rattle.messages.specs.declared.Drafts.{Drafts}
 use Rattle.messages.specs.declared.Line.{Line}
 use Rattle.messages.specs.declared.Conflict.{Conflict}
 use Rattle.messages.specs.declared.Conflict.the-variants.{Held, Newer, Full}
-use Rattle.messages.specs.declared.Objection.{Objection}
 use Rattle.messages.specs.declared.Vote.{Vote}
 use Rattle.messages.specs.declared.Vote.the-variants.{Yes, No}
 use Rattle.messages.specs.declared.Outcome.{Outcome}

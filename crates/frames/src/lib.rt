@@ -9,7 +9,6 @@ mod writer;
 
 pub use hold::Frame;
 pub use reader::read;
-pub use reader::sent;
 pub use writer::write;
 
 // The sizes of a frame's parts, in bytes: what stands before the clock, an entry of the clock, a line.

@@ -1,18 +1,14 @@
 // Reading a frame: the only message that it can be of is built, written again and compared.
 ghost use mathlib.Core.Path.{_≡_};
-ghost use mathlib.Core.Bool.{true, cond};
+ghost use mathlib.Core.Bool.{true};
 ghost use Prim.Native.Nat.{_≤_, _+_, _*_};
 ghost use lib.ListN.{length};
-ghost use Rattle.std.specs.Vec.{made};
-ghost use Rattle.std.specs.declared.result.Result.the-variants.{Ok, Err};
-ghost use Rattle.faults.specs.Table.{plain};
-ghost use Rattle.faults.specs.declared.Cause.the-variants.{FrameField as WrongField};
 ghost use Rattle.clocks.specs.Clocks.{towerLimit};
 ghost use Rattle.messages.specs.Limits.{lineLimit};
-ghost use Rattle.frames.specs.Sizes.{headSize, entrySize, lineSize, fixedSize, frameSize};
+ghost use Rattle.frames.specs.Sizes.{entrySize, lineSize};
 ghost use Rattle.messages.specs.Table.{allows};
-ghost use Rattle.messages.specs.Rules.{valid, Typed};
-ghost use Rattle.frames.specs.Candidate.{countByte, draftsAt, clockAt, shownAt, conflictAt, voteAt, outcomeAt, bodyAt, messageAt};
+ghost use Rattle.messages.specs.Rules.{Typed};
+ghost use Rattle.frames.specs.Candidate.{draftsAt, clockAt, shownAt, conflictAt, voteAt, outcomeAt, bodyAt, messageAt};
 ghost use Rattle.frames.specs.Answers.{SizedAs, sizedOf, isFrame, readOf, Reads};
 use super::ENTRY;
 use super::FIXED;
@@ -199,12 +195,4 @@ pub fn read(bytes: &[u8]) -> Result<Message, Fault>
     } else {
         Err(Fault::plain(Cause::FrameField))
     }
-}
-
-// A message as it comes out at the other end of the radio: the same, if it has a frame.
-pub fn sent(message: &Message) -> Result<Message, Fault>
-    ensures { λ r. ⌜ r ≡ cond (valid (now (message .entry))) (Ok (now (message .entry))) (Err (plain WrongField)) ⌝ }
-{
-    let frame = write(message)?;
-    read(frame.as_slice())
 }

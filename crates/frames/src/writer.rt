@@ -5,13 +5,14 @@ ghost use lib.ListN.{length};
 ghost use Prim.Native.Nat.{ℕ, _≤_, _<_, _+_, _*_, _^_};
 ghost use Rattle.std.specs.shelf.Lists.{joined, All};
 ghost use Rattle.std.specs.Vec.{made};
+ghost use Rattle.std.specs.declared.result.Result.the-variants.{Ok};
 ghost use Rattle.clocks.specs.Clocks.{towerLimit};
-ghost use Rattle.frames.specs.Sizes.{entrySize, lineSize, fixedSize, mostBytes};
+ghost use Rattle.frames.specs.Sizes.{entrySize, fixedSize, mostBytes};
 ghost use Rattle.frames.specs.Bytes.{le4};
 ghost use Rattle.messages.specs.Table.{linesOf};
 ghost use Rattle.frames.specs.Layout.{lineBytes};
 ghost use Rattle.messages.specs.Rules.{TypedLine, Places, Typed};
-ghost use Rattle.frames.specs.Answers.{framed, bytesOf, written, OneMessage};
+ghost use Rattle.frames.specs.Answers.{framed, bytesOf, written, readOf, OneMessage};
 use super::MOST;
 use super::bytes::head_bytes;
 use super::bytes::line_bytes;
@@ -83,6 +84,7 @@ impl Frame {
 pub fn write(message: &Message) -> Result<Frame, Fault>
     ensures value { λ r. ⌜ r ≡ written (now (message .entry)) ⌝ }
     ensures typed { λ r. ⌜ made r (λ _. Typed (now (message .entry))) ⌝ }
+    ensures back { λ r. ⌜ made r (λ f. readOf (bytesOf f) ≡ Ok (now (message .entry))) ⌝ }
     ensures one { λ _. ⌜ OneMessage ⌝ }
 {
     if !message.is_valid() {

@@ -2,10 +2,10 @@
 use mathlib.Core.Path.{_≡_, refl, sym, ap, _∙_}
 use mathlib.Core.Logic.{inl, inr}
 use mathlib.Core.List.{List, [], _∷_, _++_, map, append-assoc}
-use Prim.Native.Nat.{ℕ, zero, suc, _-_, _+_, _<_, _≤_, min}
+use Prim.Native.Nat.{ℕ, zero, suc, _-_, _+_, _<_, min}
 use native.Mathlib.Omega.{arith}
 use native.Mathlib.Numerals.{add-one}
-use lib.ListN.{length, take, drop, set, replicate, getD}
+use lib.ListN.{length, take, set, replicate, getD}
 use Rattle.std.proofs.shelf.Lists.{take-all, take-at, length-take, length-push, set-at, take-more-set}
 use Rattle.std.proofs.shelf.Tests.{cases-lt}
 use Rattle.std.specs.Options.{mapped}

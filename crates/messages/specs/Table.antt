@@ -11,14 +11,10 @@ use Rattle.clocks.specs.declared.Version.{Version}
 use Rattle.messages.specs.Limits.{lineLimit}
 use Rattle.messages.specs.Drafting.{nothing, counted}
 use Rattle.messages.specs.declared.Draft.{Draft}
-use Rattle.messages.specs.declared.Drafts.{Drafts}
 use Rattle.messages.specs.declared.Line.{Line}
 use Rattle.messages.specs.declared.Conflict.{Conflict}
 use Rattle.messages.specs.declared.Conflict.the-variants.{Held, Newer, Full}
-use Rattle.messages.specs.declared.Objection.{Objection}
-use Rattle.messages.specs.declared.Vote.{Vote}
 use Rattle.messages.specs.declared.Vote.the-variants.{Yes, No}
-use Rattle.messages.specs.declared.Outcome.{Outcome}
 use Rattle.messages.specs.declared.Outcome.the-variants.{Granted, Refused}
 use Rattle.messages.specs.declared.Kind.{Kind}
 use Rattle.messages.specs.declared.Kind.the-variants.{Query as QueryKind, Answer as AnswerKind, Prepare as PrepareKind, Vote as VoteKind, Outcome as OutcomeKind}

@@ -38,6 +38,7 @@ impl Drafts {
     // The drafts. A length past the end counts as the end.
     pub fn as_slice(&self) -> &[Draft]
         ensures value { λ r. ⌜ now r ≡ counted (now (self .entry)) ⌝ }
+        ensures few { λ r. ⌜ length (now r) ≤ lineLimit ⌝ }
         ensures places { λ _. ⌜ length (now (self .entry) .items) ≡ lineLimit ⌝ }
     {
         let n = (self.len as usize).min(LINES);

@@ -3,10 +3,9 @@ use mathlib.Core.List.{_++_}
 use native.Mathlib.Omega.{arith}
 use borrow.Author.Tests.{ltb-false}
 use Rattle.std.specs.Of.String.{string-bytes}
-use Rattle.std.specs.Written.{decimal}
 use Rattle.std.specs.shelf.Lists.{joined}
 use Rattle.std.proofs.shelf.Lists.{take-rest}
-use lib.ListN.{getD, drop}
+use lib.ListN.{drop}
 use Rattle.capture.specs.Text.{nextEntry}
 use Rattle.capture.proofs.Listing.{clock-first}
 use Rattle.capture.proofs.text.add_clock.Needs as need

@@ -2,7 +2,6 @@ use mathlib.Core.Path.{ap, _∙_}
 use mathlib.Core.List.{List, _++_}
 use lib.Chars.{codes}
 use Prim.Native.Nat.{ℕ}
-use Rattle.std.specs.Of.String.{string-bytes}
 use Rattle.std.specs.shelf.Lists.{joined}
 use Rattle.messages.specs.Table.{linesOf}
 use Rattle.capture.specs.Text.{headText, lineText, clockText}

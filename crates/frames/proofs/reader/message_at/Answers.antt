@@ -4,7 +4,6 @@ use Prim.Native.Nat.{ℕ}
 use lib.ListN.{getD, drop}
 use Rattle.std.proofs.shelf.Lists.{take-rest, getD-drop}
 use Rattle.clocks.specs.Clocks.{towerLimit}
-use Rattle.clocks.specs.declared.Clock.{Clock}
 use Rattle.frames.specs.Sizes.{headSize, fixedSize}
 use Rattle.frames.specs.Bytes.{wordAt, halfAt}
 use Rattle.frames.specs.Candidate.{clockAt, bodyAt, countByte}

@@ -1,4 +1,5 @@
 use mathlib.Core.Path.{_≡_, sym, ap, _∙_}
+use mathlib.Core.Bool.{true}
 use mathlib.Core.List.{List, [], _++_, append-assoc}
 use Prim.Native.Nat.{ℕ}
 use native.Mathlib.Omega.{arith}
@@ -11,11 +12,11 @@ use Rattle.faults.specs.declared.Fault.{Fault}
 use Rattle.faults.specs.declared.Cause.the-variants.{FrameField as WrongField}
 use Rattle.frames.specs.Bytes.{le4}
 use Rattle.messages.specs.Table.{linesOf}
-use Rattle.frames.specs.Layout.{lineBytes, headOf, frameOf}
-use Rattle.messages.specs.Rules.{valid}
+use Rattle.frames.specs.Layout.{lineBytes, frameOf}
+use Rattle.messages.specs.Rules.{valid, Typed}
 use Rattle.frames.specs.Answers.{framed}
 use Rattle.frames.specs.declared.hold.Frame.{Frame}
-use Rattle.frames.proofs.Back.{one-message}
+use Rattle.frames.proofs.Back.{one-message, written-back}
 use Rattle.frames.proofs.writer.write.Needs as need
 
 pub returns-then-not-is-valid : need.returns-then-not-is-valid
@@ -25,6 +26,7 @@ returns-then-not-is-valid c =
     record {
       value = refused ∙ sym (cond-false (valid m) (Ok (framed (frameOf m))) (Err (plain WrongField)) (sym (c .if-not-is-valid .ensures tt)));
       typed = tt;
+      back = tt;
       one = one-message;
     }
 
@@ -39,14 +41,17 @@ returns c =
     let bytes : c .add-lines .last .self ≡ framed (frameOf m) =
     c .add-lines .ensures .adds _ (c .add-clock .ensures .adds _ (c .add .ensures .adds [] (c .blank-frame .ensures .value))) ∙ ap framed all in
     let done : _≡_ {A = Result Frame Fault} (Ok (c .add-lines .last .self)) (Ok (framed (frameOf m))) = ap (λ f. Ok f) bytes in
+    let typed : Typed m = record {
+      entries = omega arith;
+      clock = c .add-clock .ensures .typed;
+      number = c .head-bytes .ensures .typed;
+      lines = c .add-lines .ensures .typed;
+      places = c .add-lines .ensures .places;
+    } in
+    let rules : valid m ≡ true = sym (c .if-not-is-valid .ensures tt) in
     record {
-      value = done ∙ sym (cond-true (valid m) (Ok (framed (frameOf m))) (Err (plain WrongField)) (sym (c .if-not-is-valid .ensures tt)));
-      typed = record {
-        entries = omega arith;
-        clock = c .add-clock .ensures .typed;
-        number = c .head-bytes .ensures .typed;
-        lines = c .add-lines .ensures .typed;
-        places = c .add-lines .ensures .places;
-      };
+      value = done ∙ sym (cond-true (valid m) (Ok (framed (frameOf m))) (Err (plain WrongField)) rules);
+      typed = typed;
+      back = written-back m (c .add-lines .last .self) (record { typed = typed; rules = rules }) bytes;
       one = one-message;
     }

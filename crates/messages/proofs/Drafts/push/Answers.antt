@@ -1,6 +1,4 @@
 use native.Mathlib.Omega.{arith}
-use mathlib.Core.Path.{refl}
-use borrow.Author.Needs.{needs}
 use Rattle.messages.proofs.Listing.{push-counted, push-neat}
 use Rattle.messages.proofs.Drafts.push.Needs as need
 

@@ -1,11 +1,7 @@
-use mathlib.Core.Path.{_≡_, ap, _∙_}
-use mathlib.Core.Bool.{true}
-use native.Mathlib.Omega.{arith}
-use lib.ListN.{length}
-use lib.Dec.{leb}
+use mathlib.Core.Path.{_≡_, sym, ap, _∙_}
 use mathlib.Core.Bool.{_&&_}
-use lib.ListN.{drop}
-use mathlib.Core.Path.{sym}
+use native.Mathlib.Omega.{arith}
+use lib.ListN.{length, drop}
 use Rattle.std.proofs.shelf.Lists.{take-all, length-drop}
 use Rattle.std.proofs.shelf.Tests.{le-leb}
 use Rattle.messages.specs.Limits.{lineLimit}

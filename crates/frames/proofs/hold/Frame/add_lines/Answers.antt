@@ -2,9 +2,9 @@ use mathlib.Core.Path.{_≡_, sym, ap, _∙_, subst}
 use mathlib.Core.List.{_++_}
 use native.Mathlib.Omega.{arith}
 use Prim.Native.Nat.{_<_, _+_}
-use lib.ListN.{length, getD, take}
+use lib.ListN.{length, getD}
 use Rattle.std.specs.shelf.Lists.{joined, All}
-use Rattle.std.proofs.shelf.Lists.{take-all, take-more}
+use Rattle.std.proofs.shelf.Lists.{take-all}
 use Rattle.messages.specs.Table.{linesOf}
 use Rattle.frames.specs.Layout.{lineBytes}
 use Rattle.messages.specs.Rules.{TypedLine}
