@@ -52,9 +52,10 @@ mod tests {
         let line = [3, 0, 0, 0, 0, 0, 0, 0, 9, 0, 0, 0];
         let bytes = frame.as_slice();
         check(bytes.len() == 56)?;
-        check(bytes[0..20] == head)?;
-        check(bytes[20..44] == [0; 24])?;
-        check(bytes[44..56] == line)?;
+        check(bytes[0..20] == head[0..20])?;
+        let zeros = [0; 24];
+        check(bytes[20..44] == zeros[0..24])?;
+        check(bytes[44..56] == line[0..12])?;
         check_eq(fault_of(bytes), 0)
     }
 

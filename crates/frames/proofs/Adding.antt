@@ -11,7 +11,7 @@ use Rattle.frames.specs.Sizes.{mostBytes}
 use Rattle.frames.specs.Answers.{framed, bytesOf}
 use Rattle.frames.specs.declared.hold.Frame.{Frame}
 
-frame-made : (bytes : List ℕ) (n : ℕ) (bs : List ℕ) → bytes ≡ bs ++ replicate (mostBytes - length bs) 0 → n ≡ length bs → let r : Frame = record { bytes = bytes; len = n } in r ≡ framed bs
+pub frame-made : (bytes : List ℕ) (n : ℕ) (bs : List ℕ) → bytes ≡ bs ++ replicate (mostBytes - length bs) 0 → n ≡ length bs → let r : Frame = record { bytes = bytes; len = n } in r ≡ framed bs
 unfolding framed
 frame-made bytes n bs e l =
     ap (λ (xs : List ℕ). let r : Frame = record { bytes = xs; len = n } in r) e

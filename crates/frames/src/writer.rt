@@ -1,7 +1,7 @@
 // Writing a frame, part after part.
 ghost use mathlib.Core.Path.{_≡_};
 ghost use mathlib.Core.List.{List, [], _++_};
-ghost use lib.ListN.{length};
+ghost use lib.ListN.{length, replicate};
 ghost use Prim.Native.Nat.{ℕ, _≤_, _<_, _+_, _*_, _^_};
 ghost use Rattle.std.specs.shelf.Lists.{joined, All};
 ghost use Rattle.std.specs.Vec.{made};
@@ -21,6 +21,16 @@ use faults::Cause;
 use faults::Fault;
 use messages::Body;
 use messages::Message;
+use messages::front;
+
+fn zeros() -> Frame
+    ensures { λ r. ⌜ (r .bytes ≡ replicate mostBytes 0) × (r .len ≡ 0) ⌝ }
+{
+    Frame {
+        bytes: [0; MOST],
+        len: 0,
+    }
+}
 
 impl Frame {
     // A frame without bytes.
@@ -28,18 +38,14 @@ impl Frame {
         ensures value { λ r. ⌜ r ≡ framed [] ⌝ }
         ensures len { λ r. ⌜ r .len ≡ 0 ⌝ }
     {
-        Frame {
-            bytes: [0; MOST],
-            len: 0,
-        }
+        zeros()
     }
 
     // The bytes of the frame.
     pub fn as_slice(&self) -> &[u8]
         ensures { λ r. ⌜ now r ≡ bytesOf (now (self .entry)) ⌝ }
     {
-        let n = self.len.min(MOST);
-        &self.bytes[0..n]
+        front(&self.bytes, self.len)
     }
 
     // Adds a part at the end.

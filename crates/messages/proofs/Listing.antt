@@ -1,13 +1,11 @@
 -- Lists of drafts.
 use mathlib.Core.Path.{_≡_, refl, sym, ap, _∙_}
-use mathlib.Core.Logic.{inl, inr}
 use mathlib.Core.List.{List, [], _∷_, _++_, map, append-assoc}
-use Prim.Native.Nat.{ℕ, zero, suc, _-_, _+_, _<_, min}
+use Prim.Native.Nat.{ℕ, zero, suc, _-_, _+_, _<_}
 use native.Mathlib.Omega.{arith}
 use native.Mathlib.Numerals.{add-one}
 use lib.ListN.{length, take, set, replicate, getD}
-use Rattle.std.proofs.shelf.Lists.{take-all, take-at, length-take, length-push, set-at, take-more-set}
-use Rattle.std.proofs.shelf.Tests.{cases-lt}
+use Rattle.std.proofs.shelf.Lists.{take-at, length-take, length-push, set-at, take-more-set}
 use Rattle.std.specs.Options.{mapped}
 use Rattle.std.specs.declared.option.Option.the-variants.{Some, None}
 use Rattle.std.proofs.shelf.Maps.{nth-getD}
@@ -19,13 +17,6 @@ use Rattle.std.specs.declared.result.Result.the-variants.{Ok, Err}
 use Rattle.faults.specs.declared.Fault.{Fault}
 use Rattle.messages.specs.declared.Draft.{Draft}
 use Rattle.messages.specs.declared.Drafts.{Drafts}
-
--- a part from the start that the end bounds
-pub front : {X : Type 0} (xs : List X) (n k : ℕ) → k ≡ min n (length xs) → take k xs ≡ take n xs
-front xs n k e = elim (cases-lt n (length xs)) [
-  | inl less ↦ ap (λ m. take m xs) (let q : k ≡ n = omega arith in q)
-  | inr more ↦ take-all k xs (omega arith) ∙ sym (take-all n xs (omega arith))
-]
 
 pub drafts-made : (items : List Draft) (n : ℕ) (ds : List Draft) → items ≡ ds ++ replicate (lineLimit - length ds) blank → n ≡ length ds → let r : Drafts = record { items = items; len = n } in r ≡ draftsOf ds
 drafts-made items n ds e l =

@@ -59,8 +59,11 @@ fitBody (Voted (No objection)) = fitConflict (objection .conflict)
 fitBody (Decided (Granted number drafts)) = leb 1 number && fitDrafts drafts
 fitBody (Decided Refused) = true
 
+abbrev pub rules : Message → Bool
+rules m = ltb (m .sender) towerLimit && (ltb (m .receiver) towerLimit && (ltb (m .tx) transactionLimit && fitBody (m .body)))
+
 unfoldable pub valid : Message → Bool
-valid m = ltb (m .sender) towerLimit && (ltb (m .receiver) towerLimit && (ltb (m .tx) transactionLimit && fitBody (m .body)))
+valid m = rules m
 
 -- what the types say, of any message that a program holds
 pub record TypedLine (l : Line) : Type 0 where

@@ -1,10 +1,10 @@
 // Lists of drafts.
 ghost use mathlib.Core.Path.{_≡_};
-ghost use mathlib.Core.List.{[]};
-ghost use Prim.Native.Nat.{_≤_};
-ghost use lib.ListN.{length};
+ghost use mathlib.Core.List.{[], _∷_, _++_};
+ghost use Prim.Native.Nat.{_<_, _≤_};
+ghost use lib.ListN.{length, take};
 ghost use Rattle.messages.specs.Limits.{lineLimit};
-ghost use Rattle.messages.specs.Drafting.{counted, blank, draftsOf, Pushed};
+ghost use Rattle.messages.specs.Drafting.{counted, blank, draftsOf, Neat, Pushed};
 use super::Draft;
 use super::Drafts;
 use super::LINES;
@@ -24,6 +24,14 @@ impl Draft {
     }
 }
 
+// The first n of the items, or all where there are fewer.
+pub fn front<T>(items: &[T], n: usize) -> &[T]
+    ensures value { λ r. ⌜ now r ≡ take n (now (items .entry)) ⌝ }
+    ensures short { λ r. ⌜ length (now r) ≤ length (now (items .entry)) ⌝ }
+{
+    if n < items.len() { &items[0..n] } else { items }
+}
+
 impl Drafts {
     // No drafts.
     pub fn new() -> Drafts
@@ -41,8 +49,7 @@ impl Drafts {
         ensures few { λ r. ⌜ length (now r) ≤ lineLimit ⌝ }
         ensures places { λ _. ⌜ length (now (self .entry) .items) ≡ lineLimit ⌝ }
     {
-        let n = (self.len as usize).min(LINES);
-        &self.items[0..n]
+        front(&self.items, self.len as usize)
     }
 
     // How many there are.
@@ -62,8 +69,19 @@ impl Drafts {
         if n >= LINES {
             return Err(Fault::plain(Cause::Drafts));
         }
+        self.put(n, draft);
+        Ok(())
+    }
+
+    // Puts a draft into the first place that holds none, the n-th.
+    fn put(&mut self, n: usize, draft: Draft)
+        requires first { ⌜ n ≡ length (counted (now self)) ⌝ }
+        requires less { ⌜ n < lineLimit ⌝ }
+        requires places { ⌜ length (now self .items) ≡ lineLimit ⌝ }
+        ensures after { λ _. ⌜ counted (now (self .exit)) ≡ counted (now (self .entry)) ++ draft ∷ [] ⌝ }
+        ensures neat { λ _. ⌜ (Neat (now (self .entry)) → Neat (now (self .exit))) ⌝ }
+    {
         self.items[n] = draft;
         self.len = n as u8 + 1;
-        Ok(())
     }
 }

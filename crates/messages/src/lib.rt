@@ -7,6 +7,8 @@ mod entries;
 mod rules;
 mod table;
 
+pub use entries::front;
+
 // The most lines of a message, and the most drafts of a transaction.
 pub const LINES: usize = 8;
 

@@ -1,6 +1,6 @@
 // The rules that a message keeps.
 ghost use mathlib.Core.Path.{_≡_};
-ghost use Rattle.messages.specs.Rules.{fitWriter, fitVersion, isBlank, allBlank, fitDrafts, fitShown, fitConflict, fitBody, valid};
+ghost use Rattle.messages.specs.Rules.{fitWriter, fitVersion, isBlank, allBlank, fitDrafts, fitShown, fitConflict, fitBody, rules, valid};
 use super::Body;
 use super::Conflict;
 use super::Draft;
@@ -84,14 +84,20 @@ fn fits_body(body: &Body) -> bool
     }
 }
 
+fn keeps_rules(message: &Message) -> bool
+    ensures { λ r. ⌜ r ≡ rules (now (message .entry)) ⌝ }
+{
+    (message.sender as usize) < TOWERS
+        && (message.receiver as usize) < TOWERS
+        && message.tx < TRANSACTIONS
+        && fits_body(&message.body)
+}
+
 impl Message {
     // Whether the message keeps the rules, and so has a frame.
     pub fn is_valid(&self) -> bool
         ensures { λ r. ⌜ r ≡ valid (now (self .entry)) ⌝ }
     {
-        (self.sender as usize) < TOWERS
-            && (self.receiver as usize) < TOWERS
-            && self.tx < TRANSACTIONS
-            && fits_body(&self.body)
+        keeps_rules(self)
     }
 }

@@ -1,4 +1,4 @@
-use mathlib.Core.Path.{_≡_, sym, ap, _∙_}
+use mathlib.Core.Path.{refl, _≡_, sym, ap, _∙_}
 use mathlib.Core.List.{_++_}
 use native.Mathlib.Omega.{arith}
 use Prim.Native.Nat.{_<_}
@@ -8,8 +8,8 @@ use Rattle.std.specs.shelf.Lists.{joined}
 use Rattle.std.proofs.shelf.Lists.{take-all}
 use Rattle.messages.specs.Table.{linesOf}
 use Rattle.messages.proofs.Listing.{getD-nth, nth-some}
+use Rattle.frames.proofs.Adding.{joined-step}
 use Rattle.capture.specs.Text.{lineText}
-use Rattle.capture.proofs.Listing.{joined-step}
 use Rattle.capture.proofs.text.add_lines.Needs as need
 use Rattle.capture.proofs.text.add_lines.Needs.{in-Some·in-Continue-add-line, in-rest}
 
@@ -27,7 +27,7 @@ loop-i-again c =
           ∙ w .in-Continue-add-line .ensures tt
           ∙ ap (λ q. q ++ lineText line) (c .loop-i .inv)
           ∙ ap (λ l. (bs ++ joined lineText (take i ls)) ++ lineText l) (sym at)
-          ∙ joined-step lineText bs ls i line less
+          ∙ joined-step lineText bs ls i line (lineText (getD ls i line)) less refl
       | in-rest w ↦ absurd (nth-some ls i less (sym (w .in-rest .ensures tt)))
     ]
 
