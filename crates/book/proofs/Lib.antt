@@ -1,0 +1,3 @@
+pub mod Lasts
+pub mod Blanks
+pub mod Refusals

@@ -1,0 +1,20 @@
+ghost use Prim.Native.Nat.{_*_, _≤_};
+ghost use lib.ListN.{length};
+ghost use denote.Ref.{now as held};
+ghost use Rattle.book.specs.Limits.{depthLimit};
+use clocks::Version;
+
+pub mod book;
+
+// A row of `depth` places for each key, the row of a key at key × depth, and beside the rows a count for each key of how
+// many of its places are taken. A count past the depth counts as the depth, so that any memory has a meaning.
+#[derive(Drop)]
+pub struct Rows<'a> {
+    counts: &'a mut [u8],
+    versions: &'a mut [Version],
+    keys: usize,
+    depth: usize,
+    ghost counted: { keys ≤ length (held counts) },
+    ghost space: { keys * depth ≤ length (held versions) },
+    ghost small: { depth ≤ depthLimit },
+}
