@@ -17,9 +17,6 @@ module _ (s : Kept) (key : ℕ) where
   pub at-key : {X : Type 0} (r : Result X Fault) → key < s .keys → atKey s key r ≡ r
   at-key r h = ap (λ t. cond t r (Err (plain BookKey))) (lt-ltb key (s .keys) h)
 
-  pub no-key : {X : Type 0} (r : Result X Fault) → s .keys ≤ key → atKey s key r ≡ Err (plain BookKey)
-  no-key r h = ap (λ t. cond t r (Err (plain BookKey))) (le-ltb key (s .keys) h)
-
   has-key : key < s .keys → refusal s key ≡ cond (ltb (length (s .lists key)) (s .depth)) None (Some (plain Depth))
   has-key h = ap (λ t. cond t (cond (ltb (length (s .lists key)) (s .depth)) None (Some (plain Depth))) (Some (plain BookKey))) (lt-ltb key (s .keys) h)
 

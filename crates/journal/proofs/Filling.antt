@@ -58,6 +58,7 @@ known-rest n r rs h = (first, rest)
       | inl less ↦ less
       | inr more ↦ let e = sym (ap length (list-yes r rs (r .key) refl)) ∙ h (r .key) more in absurd (let k : ⊥ = omega arith in k)
     ]
+
     rest : Known n rs
     rest k l = sym (ap length (list-no r rs k (λ e. omega (arith, first)))) ∙ h k l
 

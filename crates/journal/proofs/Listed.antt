@@ -90,6 +90,10 @@ versionAt rs z (Some i) = Some (getD rs i z .version)
 -- what the place of the last record that hits says of the key's list
 pub last-at : (b : Clock) (key : ℕ) (rs : List Record) (z : Record) (o : Option ℕ) → LastPlace (λ k. Hit b key (getD rs k z)) (length rs) o → LastWithin b (listOf rs key) (versionAt rs z o)
 last-at b key rs z None h = all-listed (λ v. Inside b v → ⊥) key z rs (λ k l e i. h k l (e, i))
-last-at b key rs z (Some i) (h, here, rest) =
-    (listOf (take i rs) key, listOf (drop (i + 1) rs) key, list-split rs i key z h (here .0), here .1,
-    all-listed (λ v. Inside b v → ⊥) key z (drop (i + 1) rs) (λ k l. subst (λ (r : Record). r .key ≡ key → Inside b (r .version) → ⊥) (sym (getD-drop (i + 1) rs k z)) (λ e i′. rest (i + 1 + k) (omega arith) (let n = length-drop (i + 1) rs in omega arith) (e, i′))))
+last-at b key rs z (Some i) (h, here, rest) = (
+  listOf (take i rs) key,
+  listOf (drop (i + 1) rs) key,
+  list-split rs i key z h (here .0),
+  here .1,
+  all-listed (λ v. Inside b v → ⊥) key z (drop (i + 1) rs) (λ k l. subst (λ (r : Record). r .key ≡ key → Inside b (r .version) → ⊥) (sym (getD-drop (i + 1) rs k z)) (λ e i′. rest (i + 1 + k) (omega arith) (let n = length-drop (i + 1) rs in omega arith) (e, i′))),
+)

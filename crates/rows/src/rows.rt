@@ -1,7 +1,8 @@
-ghost use Prim.Native.Nat.{_*_, _≤_};
+ghost use Prim.Native.Nat.{ℕ, _*_, _≤_};
 ghost use lib.ListN.{length};
 ghost use denote.Ref.{now as held};
-ghost use Rattle.book.specs.Limits.{depthLimit};
+ghost use Rattle.book.specs.Limits.{keyLimit, depthLimit};
+ghost use Rattle.rows.specs.Places.{rowOf};
 use clocks::Version;
 
 pub mod book;
@@ -16,5 +17,7 @@ pub struct Rows<'a> {
     depth: usize,
     ghost counted: { keys ≤ length (held counts) },
     ghost space: { keys * depth ≤ length (held versions) },
+    ghost few: { keys ≤ keyLimit },
     ghost small: { depth ≤ depthLimit },
+    ghost short: { (k : ℕ) → length (rowOf (held counts) (held versions) keys depth k) ≤ depth },
 }

@@ -39,6 +39,7 @@ impl<'a> Journal<'a> {
         }
     }
 
+    // Puts the version at the end of the key's list, which has room for it.
     fn push(&mut self, key: usize, version: Version)
         requires there { ⌜ key < journalKept (now self) .keys ⌝ }
         requires short { ⌜ length (journalKept (now self) .lists key) < journalKept (now self) .depth ⌝ }

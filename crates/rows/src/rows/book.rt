@@ -1,10 +1,11 @@
 ghost use mathlib.Core.Path.{_≡_};
 ghost use mathlib.Core.Bool.{_&&_};
-ghost use Prim.Native.Nat.{_<_};
+ghost use Prim.Native.Nat.{_+_, _*_, _<_, _≤_};
 ghost use lib.Dec.{eqb};
 ghost use lib.ListN.{length};
 ghost use Rattle.std.specs.shelf.Maps.{nth};
-ghost use Rattle.book.specs.Books.{added, found, blankOver};
+ghost use Rattle.book.specs.Books.{added, blank, blankOver, found};
+ghost use Rattle.book.specs.Limits.{keyLimit, depthLimit};
 ghost use Rattle.book.specs.Shapes.{places};
 ghost use Rattle.rows.specs.Rowed.{rowsKept, RowsShaped};
 use super::Rows;
@@ -43,7 +44,22 @@ impl<'a> Rows<'a> {
         } else {
             0
         };
-        let depth = shape.depth;
+        Rows::cleared(keys, shape.depth, counts, versions)
+    }
+
+    // Rows of which no place is taken.
+    fn cleared(
+        keys: usize,
+        depth: usize,
+        counts: &'a mut [u8],
+        versions: &'a mut [Version],
+    ) -> Rows<'a>
+        requires counted { ⌜ keys ≤ length (now counts) ⌝ }
+        requires space { ⌜ keys * depth ≤ length (now versions) ⌝ }
+        requires few { ⌜ keys ≤ keyLimit ⌝ }
+        requires small { ⌜ depth ≤ depthLimit ⌝ }
+        ensures { λ r. ⌜ rowsKept r ≡ blank keys depth ⌝ }
+    {
         counts.fill(0);
         Rows {
             counts,
@@ -53,26 +69,36 @@ impl<'a> Rows<'a> {
         }
     }
 
+    // Where the key's places begin.
+    fn start(&self, key: usize) -> usize
+        requires { ⌜ key < now self .keys ⌝ }
+        ensures value { λ r. ⌜ r ≡ key * now (self .entry) .depth ⌝ }
+        ensures end { λ r. ⌜ r + now (self .entry) .depth ≤ length (now (now (self .entry) .versions)) ⌝ }
+    {
+        key * self.depth
+    }
+
     // The versions of the key, oldest first.
     fn row(&self, key: usize) -> &[Version]
         requires { ⌜ key < now self .keys ⌝ }
         ensures { λ r. ⌜ now r ≡ rowsKept (now (self .entry)) .lists key ⌝ }
     {
-        let start = key * self.depth;
+        let start = self.start(key);
         let taken = (self.counts[key] as usize).min(self.depth);
         let versions = &*self.versions;
         &versions[start..start + taken]
     }
 
+    // Puts the version at the end of the key's list, which has room for it.
     fn push(&mut self, key: usize, version: Version)
         requires there { ⌜ key < now self .keys ⌝ }
         requires short { ⌜ length (rowsKept (now self) .lists key) < now self .depth ⌝ }
         ensures { λ _. ⌜ rowsKept (now (self .exit)) ≡ added (rowsKept (now (self .entry))) key version ⌝ }
     {
-        let taken = self.counts[key];
-        let place = key * self.depth + taken as usize;
+        let taken = self.row(key).len();
+        let place = self.start(key) + taken;
         self.versions[place] = version;
-        self.counts[key] = taken + 1;
+        self.counts[key] = taken as u8 + 1;
     }
 }
 

@@ -6,8 +6,7 @@ use native.Mathlib.Omega.{arith}
 use lib.ListN.{length}
 use Rattle.std.proofs.shelf.Tests.{lt-leb}
 use Rattle.tray.specs.Contents.{contents, room, full}
-use Rattle.clocks.specs.declared.Version.{Version}
-use Rattle.book.specs.Books.{Kept}
+use Rattle.book.proofs.Sames.{same-lists}
 use Rattle.journal.specs.declared.record.Record.{Record}
 use Rattle.journal.specs.Records.{listOf}
 use Rattle.journal.proofs.Listed.{list-pushed}
@@ -41,9 +40,6 @@ ghost-self c =
         ),
       ),
     )
-
-same-lists : (m d : ℕ) (f g : ℕ → List Version) → f ≡ g → _≡_ {A = Kept} (record { keys = m; depth = d; lists = f }) (record { keys = m; depth = d; lists = g })
-same-lists m d f g q = cc
 
 pub returns : need.returns
 returns c =
