@@ -6,7 +6,7 @@ ghost use Rattle.journal.specs.Records.{listOf};
 use crate::record::Record;
 use tray::Tray;
 
-pub mod book;
+pub mod impls;
 
 // The records of all keys by arrival. They have a place each, since no key has more of them than the depth.
 #[derive(Drop)]

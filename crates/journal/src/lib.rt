@@ -4,6 +4,6 @@ mod record;
 mod search;
 
 pub use journal::Journal;
-pub use journal::book::JournalBook;
-pub use journal::book::JournalView;
+pub use journal::impls::JournalBook;
+pub use journal::impls::JournalView;
 pub use record::Record;

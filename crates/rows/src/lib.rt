@@ -2,5 +2,5 @@
 mod rows;
 
 pub use rows::Rows;
-pub use rows::book::RowsBook;
-pub use rows::book::RowsView;
+pub use rows::impls::RowsBook;
+pub use rows::impls::RowsView;

@@ -5,10 +5,11 @@ ghost use Rattle.book.specs.Limits.{keyLimit, depthLimit};
 ghost use Rattle.rows.specs.Places.{rowOf};
 use clocks::Version;
 
-pub mod book;
+pub mod impls;
 
 // A row of `depth` places for each key, the row of a key at key × depth, and beside the rows a count for each key of how
 // many of its places are taken. A count past the depth counts as the depth, so that any memory has a meaning.
+// (`short` holds of any memory, and stands here for `depth` to promise it.)
 #[derive(Drop)]
 pub struct Rows<'a> {
     counts: &'a mut [u8],
