@@ -3,12 +3,13 @@ ghost use Rattle.book.specs.Limits.{keyLimit, depthLimit};
 
 mod checked;
 
-// The most keys of a book, and the most versions that it keeps of one key.
+// The most keys of a book.
 pub const MAX_KEYS: usize = 256;
 
+// The most versions that a book keeps of one key.
 pub const MAX_DEPTH: usize = 64;
 
-// The numbers of keys and of places for each key that a book can have.
+// The number of keys of a book, and its depth: how many versions it keeps of one key.
 #[derive(Clone, Copy)]
 pub struct Shape {
     pub keys: usize,

@@ -10,6 +10,7 @@ use faults::Fault;
 
 // The questions to a book. None of them changes it.
 pub trait BookView {
+    // What the book holds: its two numbers, and the list of each key.
     ghost kept: { Self → Kept };
 
     // How many keys the book has. They are numbered from 0, and a number past them has no versions.
