@@ -1,6 +1,6 @@
 -- What a list of versions shows at a bound.
 use mathlib.Core.Path.{_≡_}
-use mathlib.Core.List.{List, [], _∷_, _++_}
+use mathlib.Core.List.{List, _∷_, _++_}
 use mathlib.Core.Bool.{Bool, cond}
 use Prim.Native.Nat.{ℕ, _<_}
 use Rattle.std.specs.shelf.Lists.{folded, All}

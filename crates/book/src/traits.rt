@@ -1,7 +1,7 @@
 ghost use mathlib.Core.Path.{_≡_};
 ghost use lib.ListN.{length};
 ghost use Rattle.std.specs.shelf.Maps.{nth};
-ghost use Rattle.std.specs.declared.result.Result.the-variants.{Ok, Err};
+ghost use Rattle.std.specs.declared.result.Result.the-variants.{Ok};
 ghost use Rattle.book.specs.Books.{Kept, Outside, Short, atKey, found, shown, Shows, Added};
 use crate::newest::Newest;
 use clocks::Clock;

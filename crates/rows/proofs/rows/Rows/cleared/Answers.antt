@@ -1,5 +1,4 @@
-use mathlib.Core.Path.{_≡_, sym, fun-ext, subst}
-use mathlib.Core.List.{List, []}
+use mathlib.Core.Path.{sym, fun-ext, subst}
 use Prim.Native.Nat.{ℕ, _≤_}
 use Rattle.book.proofs.Sames.{same-lists}
 use Rattle.rows.proofs.Placing.{row-blank, row-short}

@@ -1,5 +1,4 @@
 use mathlib.Core.Path.{_≡_, sym, ap, fun-ext, subst, _∙_}
-use mathlib.Core.List.{List}
 use Prim.Native.Nat.{ℕ, _+_, _*_, _<_, _≤_}
 use lib.ListN.{length, set}
 use Rattle.std.proofs.shelf.Lists.{length-set}

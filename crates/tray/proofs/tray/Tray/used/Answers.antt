@@ -2,7 +2,6 @@ use mathlib.Core.Path.{_≡_, sym, ap, _∙_}
 use native.Mathlib.Omega.{arith}
 use lib.ListN.{length, take}
 use Rattle.std.proofs.shelf.Lists.{length-take}
-use Rattle.tray.specs.Contents.{contents}
 use Rattle.tray.proofs.Front.{front-le, front-again}
 use Rattle.tray.proofs.tray.Tray.used.Needs as need
 
