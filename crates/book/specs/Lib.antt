@@ -1,0 +1,5 @@
+pub mod Books
+pub mod Examples
+pub mod Limits
+pub mod Newest
+pub mod Shapes

@@ -1,0 +1,2 @@
+mod Front
+pub mod Facts
