@@ -1,0 +1,9 @@
+pub mod Lists
+pub mod Net
+pub mod Words
+pub mod View
+pub mod History
+pub mod Rules
+pub mod Laws
+pub mod Further
+pub mod Frames
