@@ -17,8 +17,9 @@ use Rattle.messages.specs.declared.Objection.{Objection}
 use Rattle.laws.proofs.Conflicts.{none-some}
 use Rattle.laws.specs.Lists.{put, In, tally}
 use Rattle.laws.specs.Net.{Record, Body, query, answer, prepare, vote, refused, Message, Net, Drafted, shut}
-use Rattle.laws.proofs.Model.{State, noting, on, placement, placing}
-use Rattle.laws.specs.Rules.{amended, asked, begun-at, closed}
+use Rattle.laws.proofs.Model.{State, on}
+use Rattle.laws.specs.State.{amended}
+use Rattle.laws.specs.Rules.{asked, begun-at, closed}
 use Rattle.laws.specs.Words.{blank, opened, in-phase, drafting, voting, letter, unless-none, homed, prepare-to, prepares}
 use Rattle.laws.proofs.Lists.{put-same, put-other, put-case, in-left, in-right, in-append, tally-append, tally-none}
 use Rattle.laws.proofs.Invariant.{intents, is-read, is-ballot, is-granted, is-refused, polled, reads, ballots, Holds, Ballot, Votes, Justified, Invariant}

@@ -1,20 +1,18 @@
 -- Every frame in the air reads back as its message. Assumes nothing.
 use mathlib.Core.Path.{_≡_, refl, sym, ap, subst, _∙_}
 use mathlib.Core.List.{List, [], _∷_, map}
-use mathlib.Core.Logic.{_⊎_, inl, inr}
+use mathlib.Core.Logic.{inl, inr}
 use Prim.Native.Nat.{ℕ}
-use Rattle.std.specs.declared.option.Option.{Option}
-use Rattle.std.specs.declared.option.Option.the-variants.{Some, None}
-use Rattle.tables.specs.declared.Call.{Call}
-use Rattle.tables.specs.declared.Told.{Told}
+use Rattle.std.specs.declared.option.Option.the-variants.{Some}
 use Rattle.clocks.specs.declared.Content.{Content}
 use mathlib.Core.Bool.{Bool}
 use Rattle.laws.specs.Lists.{In}
 use Rattle.laws.specs.Net.{Message, Net}
 use Rattle.laws.specs.Words.{Event}
 use Rattle.laws.specs.Rules as rules
-use Rattle.laws.specs.Rules.{Visible, Step, Run}
-use Rattle.laws.specs.Frames.{Fit, Codec, Framed, with-frames, Read-as, Calls-ok, framed, StepF, RunF, start, then, Carried, Frames-carry}
+use Rattle.laws.specs.State.{Visible, new}
+use Rattle.laws.specs.Rules.{Step, Run}
+use Rattle.laws.specs.Frames.{Fit, Codec, Framed, Read-as, Calls-ok, framed, RunF, start, then, Frames-carry}
 use Rattle.laws.proofs.Lawful.{laws-stand}
 use Rattle.laws.proofs.Fits.{numbers-in-range}
 
@@ -39,7 +37,7 @@ module _ (net : Net) (ok : Content → Bool) (codec : Codec net ok) where
   in-frames (m ∷ ms) b (inr h) = let r = in-frames ms b h in (r .0, inr (r .1), r .2)
 
   behind : (h : List Event) (f : Framed) → Calls-ok ok h → RunF net ok codec h f → (v : Visible) × Run net h v × (f ≡ framed net ok codec v)
-  behind _ _ y start = (rules.new, rules.start, refl)
+  behind _ _ y start = (new, rules.start, refl)
   behind _ _ y (then {h = h} {f = f} {c = c} {a = a} r x) =
       let ih = behind h f (y .1) r in
       let v = ih .0 in

@@ -1,7 +1,7 @@
 -- What stands in the way of a line, as a relation, and what a home says of it. Assumes nothing.
 use mathlib.Core.Path.{_≡_, refl, sym, ap, subst, _∙_}
 use mathlib.Core.List.{List, [], _∷_}
-use mathlib.Core.Bool.{Bool, true, false, cond, not, _&&_}
+use mathlib.Core.Bool.{Bool, true, false, cond, not}
 use mathlib.Core.Logic.{_⊎_, inl, inr, _≢_}
 use Prim.Native.Nat.{ℕ}
 use native.Mathlib.Omega.{arith}
@@ -9,7 +9,7 @@ use lib.Dec.{eqb}
 use lib.ListN.{length}
 use Rattle.std.specs.declared.option.Option.{Option}
 use Rattle.std.specs.declared.option.Option.the-variants.{Some, None}
-use Rattle.std.proofs.shelf.Tests.{eq-eqb, ne-eqb, eqb-true, eqb-false, cases-eq, cases-bool, both-ways, and-parts, and-from}
+use Rattle.std.proofs.shelf.Tests.{eq-eqb, ne-eqb, eqb-true, cases-bool, both-ways, and-parts, and-from}
 use Rattle.clocks.specs.declared.Version.{Version}
 use Rattle.messages.specs.declared.Draft.{Draft}
 use Rattle.messages.specs.declared.Objection.{Objection}
@@ -19,7 +19,8 @@ use Rattle.tables.specs.declared.Held.{Held}
 use Rattle.laws.specs.Lists.{In, either, first-of}
 use Rattle.laws.specs.Net.{Clock, Message, Net, Drafted, inside, newest}
 use Rattle.laws.specs.Words.{held-conflict, newer-conflict, another-holds, conflict-at, objection-at, first-objection}
-use Rattle.laws.specs.Rules.{Visible, objection}
+use Rattle.laws.specs.State.{Visible}
+use Rattle.laws.specs.Rules.{objection}
 
 pub data Conflict (depth : ℕ) (held : List Held) (versions : List Version) (bound : Clock) (i k : ℕ) : Type 0 where
   taken-by : (h : Held) → In h held → h .key ≡ k → h .tx ≢ i → Conflict depth held versions bound i k

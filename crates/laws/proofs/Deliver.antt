@@ -1,25 +1,20 @@
 -- Whatever is in the air is too early, or its delivery can be obeyed. Assumes nothing.
-use mathlib.Core.Path.{_≡_, refl, sym, ap, subst, _∙_}
-use mathlib.Core.List.{List, [], _∷_, _++_}
-use mathlib.Core.Bool.{Bool, true, false}
-use mathlib.Core.Logic.{_⊎_, inl, inr, _≢_}
+use mathlib.Core.Path.{_≡_, refl, sym, subst}
+use mathlib.Core.List.{List}
+use mathlib.Core.Logic.{_⊎_, inl, inr}
 use Prim.Native.Nat.{ℕ, zero, suc, _≤_, _<_}
 use native.Mathlib.Omega.{arith}
-use lib.Dec.{eqb}
-use lib.ListN.{length}
 use Rattle.std.specs.declared.option.Option.{Option}
 use Rattle.std.specs.declared.option.Option.the-variants.{Some, None}
-use Rattle.std.proofs.shelf.Tests.{cases-eq, cases-bool, cases-lt, both-ways}
-use Rattle.clocks.specs.declared.Version.{Version}
+use Rattle.std.proofs.shelf.Tests.{cases-eq, cases-lt}
 use Rattle.messages.specs.declared.Draft.{Draft}
-use Rattle.tables.specs.declared.Held.{Held}
 use Rattle.tables.specs.declared.Call.the-variants.{Deliver}
 use Rattle.tables.specs.declared.Told.{Told}
 use Rattle.messages.specs.declared.Objection.{Objection}
-use Rattle.laws.specs.Lists.{In, At, either}
-use Rattle.laws.specs.Net.{Clock, Body, query, answer, prepare, vote, granted, refused, Message, Net, _⊑_, Drafted, newest, inside}
-use Rattle.laws.specs.Words.{Event}
-use Rattle.laws.specs.Rules.{Visible, objection, Ripe, Rule, Run, replies, hears, agrees, objects, counts, grants, refuses, takes-in, lets-go}
+use Rattle.laws.specs.Lists.{either}
+use Rattle.laws.specs.Net.{Clock, Body, query, answer, prepare, vote, granted, refused, _⊑_}
+use Rattle.laws.specs.State.{Visible}
+use Rattle.laws.specs.Rules.{objection, Ripe, Rule, replies, hears, agrees, objects, counts, grants, refuses, takes-in, lets-go}
 use Rattle.laws.specs.Further.{Always, Behind, Too-early, Deliverable}
 use Rattle.laws.proofs.Lists.{in-at}
 use Rattle.laws.proofs.Further.{closing-awaits, messages-at-home}

@@ -1,8 +1,8 @@
 -- What its own tower had placed before a transaction began is within its bound. Assumes nothing.
 use mathlib.Core.Path.{_≡_, refl, sym, ap, subst, _∙_}
-use mathlib.Core.List.{List, [], _∷_, _++_}
-use mathlib.Core.Bool.{Bool, true, false, cond}
-use mathlib.Core.Logic.{_⊎_, inl, inr, _≢_}
+use mathlib.Core.List.{List, [], _∷_}
+use mathlib.Core.Bool.{cond}
+use mathlib.Core.Logic.{_⊎_, inl, inr}
 use Prim.Native.Nat.{ℕ, suc, pred, _≤_, _<_}
 use native.Mathlib.Omega.{arith}
 use lib.Dec.{eqb}
@@ -14,17 +14,18 @@ use Rattle.tables.specs.declared.Told.{Told}
 use Rattle.tables.specs.declared.Phase.the-variants.{Waiting, Closing, Granted, Refused, Dropped}
 use Rattle.laws.specs.Lists.{put, In, either}
 use Rattle.laws.specs.Net.{Record, Placement, Net, _⊑_, Seen, is-ballot}
-use Rattle.laws.proofs.Model.{Logged, State, after-step, by-step, next, noting, on, placement, placing, start, then}
-use Rattle.laws.specs.Rules.{Rule, Step, Visible, agrees, asks, begins, closes, closes-empty, counts, drafts, drops, fails, grants, hears, lets-go, looks, obeys, objects, refuses, replies, takes-in}
+use Rattle.laws.proofs.Model.{Logged, State, after-step, next, noting, on, placing, start, then}
+use Rattle.laws.specs.Rules.{Rule, Step, agrees, asks, begins, closes, closes-empty, counts, drafts, drops, fails, grants, hears, lets-go, looks, obeys, objects, refuses, replies, takes-in}
+use Rattle.laws.specs.State.{placement, Visible}
 use Rattle.laws.specs.Words.{opened, in-phase, drafting, reading-at, voting, redrafted, placed-as, prepares, Event}
 use Rattle.laws.specs.History.{Note, note, is-begun, is-shown, is-placed, is-other, is-fault, placed-by, begun-by, placedIn, begunIn, Next-told, Counted, before-by, placedBeforeIn, originIn}
-use Rattle.laws.proofs.Lists.{put-case, put-keeps, put-same, put-other, in-at}
+use Rattle.laws.proofs.Lists.{put-case, put-same, put-other, in-at}
 use Rattle.laws.proofs.Placed.{number-le}
 use Rattle.laws.proofs.Invariant.{Invariant}
 use Rattle.laws.proofs.Frames.{differ, placed-other}
 use Rattle.laws.proofs.Stand.{run-holds}
 use Rattle.laws.proofs.More.{More, run-more}
-use Rattle.laws.proofs.Histories.{txs, Linked, run-linked}
+use Rattle.laws.proofs.Histories.{Linked, run-linked}
 use Rattle.laws.proofs.Lawful.{placed-at}
 
 -- ## The histories
@@ -82,7 +83,7 @@ early-rule net {s} {c = call} {a = told} h v g l x (begins t b _ e) = subst (λ 
         rw (put-same (s .vis .records) (s .vis .begun) (opened t (s .vis .clocks t)) y q) u′
     go y E lt m (inr n) i o =
         rw (put-other (s .vis .records) (s .vis .begun) (opened t (s .vis .clocks t)) y n) (x y E (omega (arith, lt, n)) m (rw (ne-eqb (s .vis .begun) y n) at i) (rw (ne-eqb (s .vis .begun) y n) at o))
-early-rule net {s} {c = call} {a = told} h v g l x (looks i d o q e) = subst (λ (w : Visible). Early-in (after call told h) (on s w)) (sym e) x
+early-rule net {s} {c = call} {a = told} h v g l x (looks i k d o q e) = subst (λ (w : Visible). Early-in (after call told h) (on s w)) (sym e) x
 early-rule net {s} {c = call} {a = told} h v g l x (asks i k o _ n e) = subst (λ (w : Visible). Early-in (after call told h) (on s w)) (sym e) (early-put h (s .vis .begun) (s .placed) (s .vis .records) i (in-phase Waiting (s .vis .records i)) (same (s .vis .records) i) x)
 early-rule net {s} {c = call} {a = told} h v g l x (drafts i k w o _ _ e) = subst (λ (w : Visible). Early-in (after call told h) (on s w)) (sym e) (early-put h (s .vis .begun) (s .placed) (s .vis .records) i (drafting (redrafted k w (s .vis .records i .drafts)) (s .vis .records i)) (same (s .vis .records) i) x)
 early-rule net {s} {c = call} {a = told} h v g l x (drops i o e) = subst (λ (w : Visible). Early-in (after call told h) (on s w)) (sym e) (early-put h (s .vis .begun) (s .placed) (s .vis .records) i (in-phase Dropped (s .vis .records i)) (same (s .vis .records) i) x)
@@ -110,8 +111,8 @@ early-rule net {s} {c = call} {a = told} h v g l x (takes-in p m n lines r b q e
 early-rule net {s} {c = call} {a = told} h v g l x (lets-go p m a b e) = subst (λ (w : Visible). Early-in (after call told h) (on s w)) (sym e) x
 
 early-step : (net : Net) {s : State} {v′ : Visible} {c : Call} {a : Told} (h : List Event) → Invariant net s → More net s → Linked h s → Early-in h s → (x : Step net (s .vis) v′ c a) → Early-in (after c a h) (after-step net s x)
-early-step net {s} {c = call} {a = told} h v g l x (fails f e) = subst (λ (w : Visible). Early-in (after call told h) (on s w)) (sym e) x
-early-step net h v g l x (obeys y) = early-rule net h v g l x y
+early-step net {s} {c = call} {a = told} h v g l x (fails f _ e) = subst (λ (w : Visible). Early-in (after call told h) (on s w)) (sym e) x
+early-step net h v g l x (obeys _ y) = early-rule net h v g l x y
 
 pub run-early : (net : Net) {h : List Event} {s : State} → Logged net h s → (y : ℕ) (E : Placement) → y < s .vis .begun → In E (s .placed) → In (E .tx) (placedBeforeIn h y) → E .origin ≡ originIn h y → Seen E (s .vis .records y .bound)
 run-early net start = λ y E l m. absurd m

@@ -13,13 +13,14 @@ use Rattle.laws.specs.Lists.{In, tally}
 use Rattle.laws.specs.Net.{Net, count}
 use Rattle.laws.specs.Words.{Event}
 use Rattle.laws.specs.History.{placedIn, begunIn, originIn, Earlier}
-use Rattle.laws.specs.Rules.{Run, Visible}
+use Rattle.laws.specs.Rules.{Run}
+use Rattle.laws.specs.State.{Visible}
 use Rattle.laws.specs.Laws.{Laws}
-use Rattle.laws.proofs.Model.{Logged, State, after-step, by-step, next, noting, on, placement, placing, start, then}
+use Rattle.laws.proofs.Model.{Logged, State}
 use Rattle.laws.proofs.Lists.{tally-none}
 use Rattle.laws.proofs.Stand.{run-holds}
 use Rattle.laws.proofs.Ranges.{begun-phase}
-use Rattle.laws.proofs.Histories.{txs, run-linked}
+use Rattle.laws.proofs.Histories.{run-linked}
 use Rattle.laws.proofs.Lawful.{count-told, told-of, laws-stand}
 use Rattle.laws.proofs.Further.{always}
 

@@ -1,5 +1,5 @@
 -- Whatever the net holds or sends is in range. Assumes nothing.
-use mathlib.Core.Path.{_≡_, refl, sym, ap, subst, _∙_}
+use mathlib.Core.Path.{_≡_, refl, sym, subst}
 use mathlib.Core.List.{List, [], _∷_, _++_}
 use mathlib.Core.Bool.{Bool, true, false, cond, not}
 use mathlib.Core.Logic.{_⊎_, inl, inr, _≢_}
@@ -19,9 +19,10 @@ use Rattle.messages.specs.declared.Objection.{Objection}
 use Rattle.clocks.specs.declared.Content.{Content}
 use Rattle.laws.proofs.Conflicts.{opposed}
 use Rattle.laws.specs.Lists.{put, In, At, without, those, either}
-use Rattle.laws.specs.Net.{Clock, Record, Body, query, answer, prepare, vote, granted, refused, Message, Placement, Net, Drafted, written, inside, newest-within}
-use Rattle.laws.specs.Words.{blank, opened, in-phase, drafting, reading-at, voting, placed-as, letter, redrafted, unless-none, homed, prepare-to, granted-to, refused-to, prepares, grants-to, refusals-to, Event}
-use Rattle.laws.specs.Rules.{Visible, granting, Rule, Step, Run, start, then, fails, obeys, begins, looks, asks, drafts, drops, closes-empty, closes, replies, hears, agrees, objects, counts, grants, refuses, takes-in, lets-go}
+use Rattle.laws.specs.Net.{Clock, Record, Body, query, answer, prepare, vote, granted, Message, Placement, Net, Drafted, written, inside, newest-within}
+use Rattle.laws.specs.Words.{opened, in-phase, drafting, reading-at, voting, placed-as, letter, redrafted, unless-none, homed, prepare-to, granted-to, refused-to, prepares, grants-to, refusals-to, Event}
+use Rattle.laws.specs.State.{Visible}
+use Rattle.laws.specs.Rules.{Rule, Step, Run, start, then, fails, obeys, begins, looks, asks, drafts, drops, closes-empty, closes, replies, hears, agrees, objects, counts, grants, refuses, takes-in, lets-go}
 use Rattle.laws.specs.Frames.{Fit-clock, Fit-version, Fit-lines, Fit-shown, Fit-named, Fit-body, Fit, Fit-record, In-range, Call-ok, Calls-ok, Numbers-in-range}
 use Rattle.laws.specs.Further.{Always}
 use Rattle.laws.proofs.Lists.{put-same, put-case, put-all, in-at, in-append, in-without, in-those}
@@ -156,7 +157,7 @@ module _ (net : Net) (ok : Content → Bool) where
     book = g .book;
     air = g .air;
   })
-  rule-fits op sm y g (looks i d o h e) = subst (In-range net ok) (sym e) g
+  rule-fits op sm y g (looks i k d o h e) = subst (In-range net ok) (sym e) g
   rule-fits {v} op sm y g (asks i k o l n e) = subst (In-range net ok) (sym e) (
       let r = g .records i in
       let b : i < net .transactions = omega (arith, op i (differ Open Dropped refl o), g .begun) in
@@ -297,8 +298,8 @@ module _ (net : Net) (ok : Content → Bool) where
   rule-fits {v} op sm y g (lets-go p m a b e) = subst (In-range net ok) (sym e) (record { begun = g .begun; clocks = g .clocks; records = g .records; book = g .book; air = mail-landed (v .air) p (g .air) })
 
   step-fits : {v v′ : Visible} {c : Call} {a : Told} → ((i : ℕ) → v .records i .phase ≢ Dropped → i < v .begun) → ((t j : ℕ) → v′ .clocks t j ≤ v′ .begun) → Call-ok ok c → In-range net ok v → Step net v v′ c a → In-range net ok v′
-  step-fits op sm y g (fails f e) = subst (In-range net ok) (sym e) g
-  step-fits op sm y g (obeys x) = rule-fits op sm y g x
+  step-fits op sm y g (fails f _ e) = subst (In-range net ok) (sym e) g
+  step-fits op sm y g (obeys _ x) = rule-fits op sm y g x
 
   run-fits : {h : List Event} {v : Visible} → Calls-ok ok h → Run net h v → In-range net ok v
   run-fits y start = record {

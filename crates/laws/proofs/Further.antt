@@ -1,28 +1,25 @@
 -- The further laws. Assumes nothing.
 use mathlib.Core.Path.{_≡_, refl, sym, ap, subst, _∙_}
-use mathlib.Core.List.{List, [], _∷_, _++_}
+use mathlib.Core.List.{List, [], _∷_}
 use mathlib.Core.Bool.{Bool, true, false, cond, _&&_}
 use mathlib.Core.Logic.{_⊎_, inl, inr, _≢_}
-use Prim.Native.Nat.{ℕ, zero, suc, _+_, _≤_, _<_}
+use Prim.Native.Nat.{ℕ, _+_, _≤_, _<_}
 use native.Mathlib.Omega.{arith}
 use lib.Dec.{eqb}
 use lib.ListN.{length}
-use Rattle.std.specs.declared.option.Option.{Option}
-use Rattle.std.specs.declared.option.Option.the-variants.{Some, None}
-use Rattle.std.proofs.shelf.Tests.{eqb-true, cases-eq, cases-lt, cases-bool, both-ways, leb-true, and-parts}
+use Rattle.std.proofs.shelf.Tests.{eqb-true, cases-eq, cases-bool, both-ways, leb-true, and-parts}
 use Rattle.clocks.specs.declared.Version.{Version}
 use Rattle.messages.specs.declared.Draft.{Draft}
 use Rattle.tables.specs.declared.Phase.{Phase}
 use Rattle.tables.specs.declared.Phase.the-variants.{Open, Waiting, Closing, Granted, Refused, Dropped}
-use Rattle.laws.specs.Lists.{In, At, tally, either}
-use Rattle.laws.specs.Net.{Clock, Record, Body, query, answer, prepare, vote, granted, refused, Message, Placement, Net, _⊑_, Drafted, written, wrote, versions, taken, Seen, seen, shut, ballots, is-ballot, owed-of}
-use Rattle.laws.proofs.Model.{Logged, State, after-step, by-step, log-of, next, noting, on, placement, placing, start, then}
-use Rattle.laws.specs.Words.{blank, homed, granted-to, Event}
-use Rattle.laws.specs.History.{placedIn, begunIn, placedBeforeIn, originIn, draftsIn, versionsIn, Within, Outside}
-use Rattle.laws.specs.Rules.{Run, Visible}
-use Rattle.laws.specs.Laws.{Rival, Cause, Laws}
-use Rattle.laws.specs.Further.{Always, Causally-closed, Outcome-flies, Accounted, Versions-within-clock, Awaited, Closing-awaits, Finds-room, Own-tower-seen, phase-for, At-home, Messages-at-home, Two-alone, Both-granted}
-use Rattle.laws.proofs.Lists.{in-append, in-at}
+use Rattle.laws.specs.Lists.{In, tally}
+use Rattle.laws.specs.Net.{Clock, Record, Body, query, answer, prepare, vote, granted, refused, Message, Placement, Net, _⊑_, Drafted, wrote, versions, taken, Seen, seen, shut, ballots, is-ballot}
+use Rattle.laws.proofs.Model.{Logged, State, log-of}
+use Rattle.laws.specs.Words.{homed, granted-to, Event}
+use Rattle.laws.specs.History.{placedIn, begunIn, placedBeforeIn, originIn, draftsIn, Within, Outside}
+use Rattle.laws.specs.State.{Visible}
+use Rattle.laws.specs.Further.{Always, Causally-closed, Outcome-flies, Accounted, Versions-within-clock, Closing-awaits, Finds-room, Own-tower-seen, phase-for, Messages-at-home, Both-granted}
+use Rattle.laws.proofs.Lists.{in-append}
 use Rattle.laws.proofs.Placed.{number-le, written-none}
 use Rattle.laws.proofs.Invariant.{Holds, Invariant, is-read}
 use Rattle.laws.proofs.Frames.{differ}

@@ -15,9 +15,10 @@ use Rattle.tables.specs.declared.Held.{Held}
 use Rattle.tables.specs.declared.Phase.the-variants.{Waiting, Closing, Granted, Refused, Dropped}
 use Rattle.messages.specs.declared.Objection.{Objection}
 use Rattle.laws.proofs.Conflicts.{none-some, either-none}
+use Rattle.laws.specs.State.{placement}
 use Rattle.laws.specs.Lists.{put, In, At, without, either}
 use Rattle.laws.specs.Net.{Clock, Record, vote, granted, refused, Message, Placement, Net, _⊑_, Drafted, taken, count, Seen, seen, shut}
-use Rattle.laws.proofs.Model.{Answered, State, noting, on, placement, placing}
+use Rattle.laws.proofs.Model.{Answered, State, on, placing}
 use Rattle.laws.specs.Rules.{Ripe, asked, closed, granting, took, voted}
 use Rattle.laws.specs.Words.{voting, placed-as, homed, freed, granted-to, grants-to}
 use Rattle.laws.proofs.Lists.{put-same, put-other, put-case, in-left, in-right, in-append, in-at, in-without, in-rest, none-left}

@@ -1,15 +1,13 @@
 -- What a history tells of a transaction is what its record says. Assumes nothing.
 use mathlib.Core.Path.{_≡_, refl, sym, ap, subst, _∙_}
 use mathlib.Core.List.{List, [], _∷_, _++_}
-use mathlib.Core.Bool.{true, false, cond}
-use mathlib.Core.Logic.{_≢_}
+use mathlib.Core.Bool.{cond}
 use Prim.Native.Nat.{ℕ, suc}
 use native.Mathlib.Omega.{arith}
 use lib.Dec.{eqb}
 use lib.ListN.{length}
 use Rattle.std.specs.declared.option.Option.the-variants.{Some, None}
 use Rattle.std.proofs.shelf.Tests.{eq-eqb, ne-eqb}
-use Rattle.messages.specs.declared.Draft.{Draft}
 use Rattle.tables.specs.declared.Call.{Call}
 use Rattle.tables.specs.declared.Told.{Told}
 use Rattle.tables.specs.declared.Phase.the-variants.{Waiting, Closing, Granted, Refused, Dropped}
@@ -17,9 +15,10 @@ use Rattle.clocks.specs.declared.Content.{Content}
 use Rattle.tables.specs.declared.Reading.{Reading}
 use Rattle.laws.specs.Lists.{put, either}
 use Rattle.laws.specs.Net.{Record, Placement, Net, content-of, writer-of}
-use Rattle.laws.proofs.Model.{Answered, Logged, State, after-step, by-step, next, noting, on, placement, placing, start, then}
-use Rattle.laws.specs.Rules.{Rule, Step, Visible, agrees, asks, begins, closes, closes-empty, counts, drafts, drops, fails, grants, hears, lets-go, looks, obeys, objects, refuses, replies, takes-in}
-use Rattle.laws.specs.Words.{blank, opened, in-phase, drafting, reading-at, voting, redrafted, prepares, Event}
+use Rattle.laws.proofs.Model.{Answered, Logged, State, after-step, next, noting, on, placing, start, then}
+use Rattle.laws.specs.Rules.{Rule, Step, agrees, asks, begins, closes, closes-empty, counts, drafts, drops, fails, grants, hears, lets-go, looks, obeys, objects, refuses, replies, takes-in}
+use Rattle.laws.specs.State.{placement, Visible}
+use Rattle.laws.specs.Words.{opened, in-phase, drafting, reading-at, voting, redrafted, prepares, Event}
 use Rattle.laws.specs.History.{placedIn, Counted, originIn, begunIn, draftsIn, Heard, readsIn}
 use Rattle.laws.proofs.Lists.{put-keeps, put-case}
 use Rattle.laws.proofs.Invariant.{Invariant}
@@ -99,7 +98,7 @@ linked-rule net {s} {c = call} {a = told} h v l (begins t b _ e) = subst (λ (w 
   entries = l .entries;
   counted = (l .begun, l .counted);
 })
-linked-rule net {s} {c = call} {a = told} h v l (looks i d o g e) = subst (λ (w : Visible). Linked (after call told h) (on s w)) (sym e) (record { begun = l .begun; origins = l .origins; drafts = l .drafts; placed = l .placed; reads = l .reads; last = l .last; entries = l .entries; counted = (tt, l .counted) })
+linked-rule net {s} {c = call} {a = told} h v l (looks i k d o g e) = subst (λ (w : Visible). Linked (after call told h) (on s w)) (sym e) (record { begun = l .begun; origins = l .origins; drafts = l .drafts; placed = l .placed; reads = l .reads; last = l .last; entries = l .entries; counted = (tt, l .counted) })
 linked-rule net {s} {c = call} {a = told} h v l (asks i k o _ n e) = subst (λ (w : Visible). Linked (after call told h) (on s w)) (sym e) (record { begun = l .begun; origins = o-put h s i (in-phase Waiting (s .vis .records i)) l refl; drafts = d-put h s i (in-phase Waiting (s .vis .records i)) l refl; placed = l .placed; reads = l .reads; last = l .last; entries = l .entries; counted = (tt, l .counted) })
 linked-rule net {s} {c = call} {a = told} h v l (drafts i k w o _ _ e) = subst (λ (w : Visible). Linked (after call told h) (on s w)) (sym e) (record {
   begun = l .begun;
@@ -154,8 +153,8 @@ linked-rule net {s} {c = call} {a = told} h v l (takes-in p m n lines r b q e) =
 linked-rule net {s} {c = call} {a = told} h v l (lets-go p m a b e) = subst (λ (w : Visible). Linked (after call told h) (on s w)) (sym e) (record { begun = l .begun; origins = l .origins; drafts = l .drafts; placed = l .placed; reads = l .reads; last = l .last; entries = l .entries; counted = (tt, l .counted) })
 
 linked-step : (net : Net) {s : State} {v′ : Visible} {c : Call} {a : Told} (h : List Event) → Invariant net s → Linked h s → (x : Step net (s .vis) v′ c a) → Linked (after c a h) (after-step net s x)
-linked-step net {s} {c = call} {a = told} h v l (fails f e) = subst (λ (w : Visible). Linked (after call told h) (on s w)) (sym e) (record { begun = l .begun; origins = l .origins; drafts = l .drafts; placed = l .placed; reads = l .reads; last = l .last; entries = l .entries; counted = (tt, l .counted) })
-linked-step net h v l (obeys x) = linked-rule net h v l x
+linked-step net {s} {c = call} {a = told} h v l (fails f _ e) = subst (λ (w : Visible). Linked (after call told h) (on s w)) (sym e) (record { begun = l .begun; origins = l .origins; drafts = l .drafts; placed = l .placed; reads = l .reads; last = l .last; entries = l .entries; counted = (tt, l .counted) })
+linked-step net h v l (obeys _ x) = linked-rule net h v l x
 
 pub run-linked : (net : Net) {h : List Event} {s : State} → Logged net h s → Linked h s
 run-linked net start = record { begun = refl; origins = λ i. refl; drafts = λ i. refl; placed = refl; reads = refl; last = refl; entries = refl; counted = tt }

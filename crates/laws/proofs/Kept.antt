@@ -7,7 +7,6 @@ use Prim.Native.Nat.{ℕ, zero, suc, pred, _+_, _≤_, _<_}
 use native.Mathlib.Omega.{arith}
 use lib.Dec.{eqb}
 use lib.ListN.{length}
-use Rattle.std.specs.declared.option.Option.{Option}
 use Rattle.std.specs.declared.option.Option.the-variants.{Some, None}
 use Rattle.std.proofs.shelf.Tests.{eq-eqb, ne-eqb, eqb-true, cases-eq, cases-bool, both-ways, and-parts, and-from, and-left, and-right}
 use Rattle.messages.specs.declared.Draft.{Draft}
@@ -16,24 +15,24 @@ use Rattle.tables.specs.declared.Call.{Call}
 use Rattle.tables.specs.declared.Told.{Told}
 use Rattle.tables.specs.declared.Phase.the-variants.{Open, Waiting, Closing, Granted, Refused, Dropped}
 use Rattle.laws.proofs.Conflicts.{Conflicts, taken-by, unopposed}
-use Rattle.laws.specs.Lists.{put, In, At, without, tally, those, either}
+use Rattle.laws.specs.Lists.{put, In, At, without, tally, either}
 use Rattle.laws.specs.Net.{Clock, Record, Body, query, answer, prepare, vote, granted, refused, Message, Placement, Net, Drafted, newest-within, shut, is-ballot}
-use Rattle.laws.specs.Words.{opened, in-phase, drafting, reading-at, voting, placed-as, letter, redrafted, unless-none, holds-of, homed, freed, prepares, prepare-to, granted-to, grants-to, refused-to, refusals-to, Event}
-use Rattle.laws.specs.History.{placedIn, begunIn, originIn, draftsIn, number-of, numberIn}
-use Rattle.laws.specs.Rules.{Run, Visible}
+use Rattle.laws.specs.Words.{opened, in-phase, drafting, reading-at, voting, placed-as, letter, redrafted, unless-none, holds-of, homed, freed, prepares, prepare-to, grants-to, refusals-to, Event}
+use Rattle.laws.specs.History.{numberIn}
+use Rattle.laws.specs.Rules.{Run, Rule, agrees, asks, begins, closes, closes-empty, counts, drafts, drops, grants, hears, lets-go, looks, objects, refuses, replies, takes-in}
+use Rattle.laws.specs.State.{placement, Visible}
 use Rattle.laws.specs.Further.{Always, Held-once, Records-agree}
-use Rattle.laws.proofs.Model.{Logged, State, after-step, by-step, log-of, next, noting, on, placement, placing, start, then}
-use Rattle.laws.specs.Rules.{Ripe, Rule, Step, agrees, asks, begins, closes, closes-empty, counts, drafts, drops, fails, grants, hears, lets-go, looks, obeys, objection, objects, refuses, replies, takes-in}
+use Rattle.laws.proofs.Model.{Logged, State, by-step, log-of, next, noting, on, placing, start, then}
 use Rattle.laws.proofs.Lists.{put-case, in-at, in-append, in-without, tally-append, tally-at, tally-none, none-left}
 use Rattle.laws.proofs.Placed.{drafted?}
-use Rattle.laws.proofs.Invariant.{intent, intents, Holds, Invariant}
+use Rattle.laws.proofs.Invariant.{Holds, Invariant}
 use Rattle.laws.proofs.Frames.{differ, only, no-intent, holds-freed}
 use Rattle.laws.proofs.Calls.{homed-drafted, each-prepare}
 use Rattle.laws.proofs.Voting.{holds-cases, each-refusal}
 use Rattle.laws.proofs.Granting.{each-grant}
 use Rattle.laws.proofs.Stand.{run-holds, intent-drafted}
 use Rattle.laws.proofs.More.{drafts-of, More, run-more, those-fewer}
-use Rattle.laws.proofs.Histories.{txs, length-txs, Linked, run-linked}
+use Rattle.laws.proofs.Histories.{txs, length-txs, run-linked}
 use Rattle.laws.proofs.Lawful.{placed-at, numbered-as}
 use Rattle.laws.proofs.Further.{always}
 use Rattle.laws.proofs.Few.{total, total-length, total-few}
@@ -199,7 +198,7 @@ module _ (net : Net) (s : State) (p : ℕ) (m : Message) (lines : List Draft) (v
 
 rule-kept : (net : Net) {s : State} {v′ : Visible} {c : Call} {a : Told} → Invariant net s → More net s → Kept net s → (x : Rule net (s .vis) v′ c a) → Kept net (next net s x)
 rule-kept net {s} v r g (begins t l _ e) = subst (λ (w : Visible). Kept net (on s w)) (sym e) (record { once = g .once; lone = g .lone; unheld = g .unheld; won = won-put (s .placed) (s .vis .records) (s .vis .begun) (opened t (s .vis .clocks t)) (g .won) (λ x. absurd (differ Open Granted refl refl x)) })
-rule-kept net {s} v r g (looks i d o h e) = subst (λ (w : Visible). Kept net (on s w)) (sym e) g
+rule-kept net {s} v r g (looks i k d o h e) = subst (λ (w : Visible). Kept net (on s w)) (sym e) g
 rule-kept net {s} v r g (asks i k o _ n e) = subst (λ (w : Visible). Kept net (on s w)) (sym e) (
     let q = letter i (s .vis .records i .origin) (net .home k) (s .vis .records i .bound) (query k (not (s .vis .records i .answered))) in
     record {

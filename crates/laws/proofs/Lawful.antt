@@ -1,8 +1,8 @@
 -- The laws follow from the invariant, and from what the history tells. Assumes nothing.
 use mathlib.Core.Path.{_≡_, refl, sym, ap, subst, _∙_}
 use mathlib.Core.List.{List, [], _∷_, _++_}
-use mathlib.Core.Bool.{Bool, true, false, cond}
-use mathlib.Core.Logic.{_⊎_, inl, inr, _≢_}
+use mathlib.Core.Bool.{true, false, cond}
+use mathlib.Core.Logic.{_⊎_, inl, inr}
 use Prim.Native.Nat.{ℕ, suc, _≤_, _<_}
 use native.Mathlib.Omega.{arith}
 use lib.Dec.{eqb}
@@ -11,17 +11,17 @@ use Rattle.std.specs.declared.option.Option.the-variants.{Some, None}
 use Rattle.std.proofs.shelf.Tests.{eq-eqb, ne-eqb, cases-eq, cases-lt, cases-bool, leb-true, leb-false}
 use Rattle.clocks.specs.declared.Version.{Version}
 use Rattle.messages.specs.declared.Draft.{Draft}
-use Rattle.tables.specs.declared.Phase.the-variants.{Granted, Refused, Dropped}
+use Rattle.tables.specs.declared.Phase.the-variants.{Granted, Dropped}
 use Rattle.messages.specs.declared.Objection.{Objection}
 use Rattle.tables.specs.declared.Reading.{Reading}
 use Rattle.laws.specs.Lists.{In, tally, last-of, either}
-use Rattle.laws.specs.Net.{Clock, Placement, Net, Drafted, versions, count, Seen, inside, newest-within, shut}
-use Rattle.laws.proofs.Model.{Answered, Logged, State, after-step, by-step, log-of, next, noting, on, placement, placing, start, then}
-use Rattle.laws.specs.Words.{placed-as, Event}
-use Rattle.laws.proofs.Facts.{Facts, Before, Refused-for, Unseen-rival}
-use Rattle.laws.specs.History.{placedIn, Earlier, originIn, draftsIn, number-after, number-of, numberIn, Within, Outside, versions-of, versionsIn, Heard, readsIn}
-use Rattle.laws.specs.Rules.{Run, Visible}
-use Rattle.laws.specs.Laws.{No-grant-flies, Last-within, Showed, Each-showed, Rival, Cause, Laws, Laws-stand}
+use Rattle.laws.specs.Net.{Clock, Placement, Net, Drafted, versions, count, Seen, inside, newest-within}
+use Rattle.laws.proofs.Model.{Answered, State, log-of}
+use Rattle.laws.specs.Words.{Event}
+use Rattle.laws.proofs.Facts.{Facts, Before, Refused-for}
+use Rattle.laws.specs.History.{placedIn, Earlier, originIn, draftsIn, number-after, number-of, numberIn, Within, Outside, versions-of, versionsIn, Heard}
+use Rattle.laws.specs.State.{Visible}
+use Rattle.laws.specs.Laws.{Last-within, Showed, Each-showed, Cause, Laws, Laws-stand}
 use Rattle.laws.proofs.Placed.{Numbered, number-new}
 use Rattle.laws.proofs.Invariant.{Invariant}
 use Rattle.laws.proofs.Frames.{placed-once, differ}

@@ -10,7 +10,8 @@ use Rattle.tables.specs.declared.Call.{Call}
 use Rattle.tables.specs.declared.Told.{Told}
 use Rattle.laws.specs.Net.{Placement, Net}
 use Rattle.laws.specs.Words.{voting, placed-as, Event}
-use Rattle.laws.specs.Rules.{Visible, new, Rule, Step, fails, obeys, begins, looks, asks, drafts, drops, closes-empty, closes, replies, hears, agrees, objects, counts, grants, refuses, takes-in, lets-go}
+use Rattle.laws.specs.State.{placement, Visible, new}
+use Rattle.laws.specs.Rules.{Rule, Step, fails, obeys, begins, looks, asks, drafts, drops, closes-empty, closes, replies, hears, agrees, objects, counts, grants, refuses, takes-in, lets-go}
 use Rattle.laws.specs.Rules as rules
 
 -- an answer that was delivered
@@ -35,17 +36,11 @@ placing s T w = record { vis = w; placed = T ∷ s .placed; readings = s .readin
 abbrev pub noting : State → Answered → Visible → State
 noting s d w = record { vis = w; placed = s .placed; readings = d ∷ s .readings }
 
--- the transaction i, as it is placed
-abbrev pub placement : Visible → ℕ → Placement
-placement v i =
-    let o = v .records i .origin in
-    placed-as i (voting Granted 0 None (suc (v .clocks o o)) (v .records i))
-
 abbrev pub next : (net : Net) (s : State) {v′ : Visible} {c : Call} {a : Told} → Rule net (s .vis) v′ c a → State
 next net s {v′ = w} (hears p m k shown x b e) = noting s (record { tx = m .tx; key = k; shown = shown }) w
 next net s {v′ = w} (grants p m named r b l q e) = placing s (placement (s .vis) (m .tx)) w
 next net s {v′ = w} (begins t l b e) = on s w
-next net s {v′ = w} (looks i d o q e) = on s w
+next net s {v′ = w} (looks i k d o q e) = on s w
 next net s {v′ = w} (asks i k o l n e) = on s w
 next net s {v′ = w} (drafts i k x o l n e) = on s w
 next net s {v′ = w} (drops i o e) = on s w
@@ -60,8 +55,8 @@ next net s {v′ = w} (takes-in p m n ls r b l e) = on s w
 next net s {v′ = w} (lets-go p m x b e) = on s w
 
 abbrev pub after-step : (net : Net) (s : State) {v′ : Visible} {c : Call} {a : Told} → Step net (s .vis) v′ c a → State
-after-step net s {v′ = w} (fails f e) = on s w
-after-step net s (obeys x) = next net s x
+after-step net s {v′ = w} (fails f q e) = on s w
+after-step net s (obeys q x) = next net s x
 
 abbrev pub first : State
 first = record { vis = new; placed = []; readings = [] }
@@ -72,8 +67,8 @@ pub data Logged (net : Net) : List Event → State → Type 0 where
 
 -- what every rule keeps, a step keeps
 pub by-step : (net : Net) (Q : State → Type 0) (s : State) {v′ : Visible} {c : Call} {a : Told} → Q s → ((x : Rule net (s .vis) v′ c a) → Q (next net s x)) → (x : Step net (s .vis) v′ c a) → Q (after-step net s x)
-by-step net Q s q f (fails _ e) = subst (λ (w : Visible). Q (on s w)) (sym e) q
-by-step net Q s q f (obeys x) = f x
+by-step net Q s q f (fails _ _ e) = subst (λ (w : Visible). Q (on s w)) (sym e) q
+by-step net Q s q f (obeys _ x) = f x
 
 -- every run has its log
 pub log-of : (net : Net) {h : List Event} {v : Visible} → rules.Run net h v → (s : State) × Logged net h s × (s .vis ≡ v)
@@ -87,7 +82,7 @@ log-of net (rules.then {v = v} {v′ = v′} {c = c} {a = a} r x) =
     vis-next net s (hears p m k shown x b e) = refl
     vis-next net s (grants p m named r b l q e) = refl
     vis-next net s (begins _ _ _ _) = refl
-    vis-next net s (looks _ _ _ _ _) = refl
+    vis-next net s (looks _ _ _ _ _ _) = refl
     vis-next net s (asks _ _ _ _ _ _) = refl
     vis-next net s (drafts _ _ _ _ _ _ _) = refl
     vis-next net s (drops _ _ _) = refl
@@ -102,5 +97,5 @@ log-of net (rules.then {v = v} {v′ = v′} {c = c} {a = a} r x) =
     vis-next net s (lets-go _ _ _ _ _) = refl
 
     vis-after : (net : Net) (s : State) {v′ : Visible} {c : Call} {a : Told} (x : Step net (s .vis) v′ c a) → after-step net s x .vis ≡ v′
-    vis-after net s (fails f e) = refl
-    vis-after net s (obeys x) = vis-next net s x
+    vis-after net s (fails f q e) = refl
+    vis-after net s (obeys q x) = vis-next net s x

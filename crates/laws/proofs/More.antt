@@ -10,7 +10,7 @@ use lib.Dec.{eqb}
 use lib.ListN.{length, length-append}
 use Rattle.std.specs.declared.option.Option.{Option}
 use Rattle.std.specs.declared.option.Option.the-variants.{Some, None}
-use Rattle.std.proofs.shelf.Tests.{eq-eqb, ne-eqb, eqb-true, eqb-false, cases-eq, cases-bool, cases-lt, both-ways, and-from}
+use Rattle.std.proofs.shelf.Tests.{eq-eqb, ne-eqb, cases-eq, both-ways, and-from}
 use Rattle.clocks.specs.declared.Version.{Version}
 use Rattle.messages.specs.declared.Draft.{Draft}
 use Rattle.tables.specs.declared.Call.{Call}
@@ -20,17 +20,18 @@ use Rattle.messages.specs.declared.Objection.{Objection}
 use Rattle.laws.proofs.Conflicts.{either-none}
 use Rattle.clocks.specs.declared.Content.{Content}
 use Rattle.laws.specs.Lists.{put, In, At, without, tally, those, either}
-use Rattle.laws.specs.Net.{Clock, Record, query, answer, prepare, vote, granted, refused, Message, Placement, Net, _⊑_, Drafted, written, count, Seen, newest-within, is-ballot, is-granted}
-use Rattle.laws.proofs.Model.{Answered, Logged, State, after-step, by-step, next, noting, on, placement, placing, start, then}
-use Rattle.laws.specs.Rules.{Ripe, Rule, Step, Visible, agrees, amended, asks, begins, begun-at, closed, closes, closes-empty, counts, drafts, drops, fails, grants, hears, lets-go, looks, obeys, objects, refuses, replies, takes-in}
-use Rattle.laws.specs.Words.{blank, opened, in-phase, drafting, reading-at, voting, placed-as, letter, redrafted, homed, prepares, prepare-to, granted-to, grants-to, refused-to, refusals-to, Event}
-use Rattle.laws.proofs.Lists.{put-same, put-other, put-case, put-all, put-keeps, in-at, in-append, in-without, none-left}
+use Rattle.laws.specs.Net.{Clock, Record, query, answer, prepare, vote, granted, refused, Message, Placement, Net, _⊑_, Drafted, written, Seen, newest-within, is-ballot, is-granted}
+use Rattle.laws.proofs.Model.{Logged, State, by-step, next, noting, on, placing, start, then}
+use Rattle.laws.specs.Rules.{Ripe, Rule, agrees, asks, begins, begun-at, closed, closes, closes-empty, counts, drafts, drops, grants, hears, lets-go, looks, objects, refuses, replies, takes-in}
+use Rattle.laws.specs.State.{placement, Visible, amended}
+use Rattle.laws.specs.Words.{opened, in-phase, drafting, reading-at, voting, placed-as, letter, redrafted, homed, prepares, prepare-to, granted-to, grants-to, refusals-to, Event}
+use Rattle.laws.proofs.Lists.{put-other, put-all, put-keeps, in-at, in-append, in-without, none-left}
 use Rattle.laws.proofs.Placed.{drafted?, written-none}
 use Rattle.laws.proofs.Invariant.{Holds, Invariant, is-read}
 use Rattle.laws.proofs.Frames.{only, differ, placed-other, outcomes-landed}
 use Rattle.laws.proofs.Calls.{homed-drafted, prepares-has, each-prepare}
 use Rattle.laws.proofs.Voting.{each-refusal}
-use Rattle.laws.proofs.TakeIn.{passed, Next, added}
+use Rattle.laws.proofs.TakeIn.{passed, added}
 use Rattle.laws.proofs.Granting.{grants-holds, each-grant}
 use Rattle.laws.proofs.Ranges.{message-begun}
 use Rattle.laws.proofs.Stand.{run-holds}
@@ -283,7 +284,7 @@ less (suc n) l = omega arith
 
 rule-more : (net : Net) {s : State} {v′ : Visible} {c : Call} {a : Told} → Invariant net s → More net s → (x : Rule net (s .vis) v′ c a) → More net (next net s x)
 rule-more net {s} v g (begins t l _ e) = subst (λ (w : Visible). More net (on s w)) (sym e) (begins-more net s t v g)
-rule-more net {s} v g (looks i d o h e) = subst (λ (w : Visible). More net (on s w)) (sym e) g
+rule-more net {s} v g (looks i k d o h e) = subst (λ (w : Visible). More net (on s w)) (sym e) g
 rule-more net {s} v g (asks i k o _ n e) = subst (λ (w : Visible). More net (on s w)) (sym e) (
     let r = in-phase Waiting (s .vis .records i) in
     let q = letter i (s .vis .records i .origin) (net .home k) (s .vis .records i .bound) (query k (not (s .vis .records i .answered))) in

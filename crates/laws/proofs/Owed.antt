@@ -6,12 +6,12 @@ use mathlib.Core.Logic.{_⊎_, inl, inr, _≢_}
 use Prim.Native.Nat.{ℕ, zero, suc, _+_, _≤_, _<_}
 use native.Mathlib.Omega.{arith}
 use lib.Dec.{eqb}
-use Rattle.std.proofs.shelf.Tests.{eq-eqb, ne-eqb, eqb-true, cases-eq, cases-bool, cases-lt, both-ways, and-parts, and-from, and-left, and-right}
+use Rattle.std.proofs.shelf.Tests.{eq-eqb, ne-eqb, eqb-true, cases-eq, cases-bool, both-ways, and-parts, and-from, and-left, and-right}
 use Rattle.messages.specs.declared.Draft.{Draft}
 use Rattle.laws.specs.Lists.{put, In, At, without, tally}
 use Rattle.laws.specs.Net.{Clock, Body, query, answer, prepare, vote, granted, refused, Message, Placement, Net, _⊑_, count, Seen, is-granted, owed-of}
-use Rattle.laws.specs.Words.{homed, granted-to, grants-to}
-use Rattle.laws.proofs.Lists.{put-same, put-other, put-case, in-append, in-without, tally-append, tally-at, tally-in, tally-none, none-left}
+use Rattle.laws.specs.Words.{granted-to, grants-to}
+use Rattle.laws.proofs.Lists.{put-same, put-other, in-append, in-without, tally-append, tally-at, tally-in, tally-none, none-left}
 use Rattle.laws.proofs.Placed.{Numbered, new-unseen, seen-or-same}
 use Rattle.laws.proofs.Invariant.{Outcomes}
 use Rattle.laws.proofs.Frames.{only, same-tally}

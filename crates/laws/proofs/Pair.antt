@@ -1,22 +1,20 @@
 -- A run of what is visible: two transactions alone, of two towers, are both granted. Assumes nothing.
-use mathlib.Core.Path.{_≡_, refl, ap}
+use mathlib.Core.Path.{_≡_, refl}
 use mathlib.Core.List.{List, [], _∷_, _++_, map}
-use mathlib.Core.Bool.{true}
-use mathlib.Core.Logic.{_⊎_, inl, inr}
 use Prim.Native.Nat.{ℕ, _%_}
 use native.Mathlib.Omega.{arith}
 use Rattle.std.specs.declared.option.Option.the-variants.{Some, None}
 use Rattle.clocks.specs.declared.Version.{Version}
 use Rattle.messages.specs.declared.Draft.{Draft}
-use Rattle.tables.specs.declared.Held.{Held}
 use Rattle.tables.specs.declared.Phase.the-variants.{Granted}
 use Rattle.tables.specs.declared.Told.{Told}
 use Rattle.tables.specs.declared.Told.the-variants.{Begun, Sent, Drafts, Prepared, Placed, Ended}
 use Rattle.laws.specs.Lists.{put}
-use Rattle.laws.specs.Net.{Clock, prepare, vote, granted, Message, Net, Drafted}
+use Rattle.laws.specs.Net.{Clock, prepare, vote, granted, Message, Net}
 use Rattle.laws.specs.Words.{drafting, redrafted, letter, holds-of, Event}
 use Rattle.laws.specs.History.{placedIn, numberIn, versionsIn}
-use Rattle.laws.specs.Rules.{Visible, amended, holding, begun-at, closed, voted, granting, took, new, Run, start, then, obeys, begins, drafts, closes, agrees, grants, takes-in}
+use Rattle.laws.specs.State.{Visible, amended, holding, new}
+use Rattle.laws.specs.Rules.{begun-at, closed, voted, granting, took, Run, start, then, obeys, begins, drafts, closes, agrees, grants, takes-in}
 use Rattle.laws.specs.Further.{Two-alone}
 use Rattle.laws.proofs.Further.{both-granted}
 
@@ -79,12 +77,12 @@ unfolding put
 run6 = (
   _,
   then (then (then (then (then (then start
-      (obeys (begins 0 (omega arith) (omega arith) refl)))
-      (obeys (begins 1 (omega arith) (omega arith) refl)))
-      (obeys (drafts 0 0 (record { value = 5 }) refl (omega arith) (omega arith) refl)))
-      (obeys (drafts 1 1 (record { value = 6 }) refl (omega arith) (omega arith) refl)))
-      (obeys (closes 0 refl (λ e. let z : _≡_ {A = ℕ} 0 1 = cc e in omega (arith, z)) refl)))
-      (obeys (closes 1 refl (λ e. let z : _≡_ {A = ℕ} 0 1 = cc e in omega (arith, z)) refl)),
+      (obeys refl (begins 0 (omega arith) (omega arith) refl)))
+      (obeys refl (begins 1 (omega arith) (omega arith) refl)))
+      (obeys refl (drafts 0 0 (record { value = 5 }) refl (omega arith) (omega arith) refl)))
+      (obeys refl (drafts 1 1 (record { value = 6 }) refl (omega arith) (omega arith) refl)))
+      (obeys refl (closes 0 refl (λ e. let z : _≡_ {A = ℕ} 0 1 = cc e in omega (arith, z)) refl)))
+      (obeys refl (closes 1 refl (λ e. let z : _≡_ {A = ℕ} 0 1 = cc e in omega (arith, z)) refl)),
 )
 
 run12 : (h : List Event) × Run pair h v12
@@ -92,12 +90,12 @@ unfolding put
 run12 = (
   _,
   then (then (then (then (then (then (run6 .1)
-      (obeys (agrees 0 ask0 (five ∷ []) (record { there = refl; caught-up = λ j. omega arith }) refl refl refl)))
-      (obeys (agrees 0 ask1 (six ∷ []) (record { there = refl; caught-up = λ j. omega arith }) refl refl refl)))
-      (obeys (grants 0 yes0 None (record { there = refl; caught-up = λ j. omega arith }) refl refl refl refl)))
-      (obeys (grants 0 yes1 None (record { there = refl; caught-up = λ j. omega arith }) refl refl refl refl)))
-      (obeys (takes-in 0 won0 1 [] (record { there = refl; caught-up = λ j. omega arith }) refl refl refl)))
-      (obeys (takes-in 0 won1 1 [] (record { there = refl; caught-up = λ j. omega arith }) refl refl refl)),
+      (obeys refl (agrees 0 ask0 (five ∷ []) (record { there = refl; caught-up = λ j. omega arith }) refl refl refl)))
+      (obeys refl (agrees 0 ask1 (six ∷ []) (record { there = refl; caught-up = λ j. omega arith }) refl refl refl)))
+      (obeys refl (grants 0 yes0 None (record { there = refl; caught-up = λ j. omega arith }) refl refl refl refl)))
+      (obeys refl (grants 0 yes1 None (record { there = refl; caught-up = λ j. omega arith }) refl refl refl refl)))
+      (obeys refl (takes-in 0 won0 1 [] (record { there = refl; caught-up = λ j. omega arith }) refl refl refl)))
+      (obeys refl (takes-in 0 won1 1 [] (record { there = refl; caught-up = λ j. omega arith }) refl refl refl)),
 )
 
 told : (e : List Told) × (map (λ e. e .told) (run12 .0) ≡ e)

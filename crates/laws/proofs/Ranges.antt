@@ -3,8 +3,8 @@
 use mathlib.Core.Path.{_≡_, refl, sym, ap, subst, _∙_}
 use mathlib.Core.List.{List, [], _∷_, _++_}
 use mathlib.Core.Bool.{Bool, true, false, cond}
-use mathlib.Core.Logic.{_⊎_, inl, inr, _≢_}
-use Prim.Native.Nat.{ℕ, zero, suc, pred, _+_, _≤_, _<_}
+use mathlib.Core.Logic.{inl, inr, _≢_}
+use Prim.Native.Nat.{ℕ, zero, suc, _≤_, _<_}
 use native.Mathlib.Omega.{arith}
 use lib.Dec.{eqb}
 use lib.ListN.{length}
@@ -13,17 +13,16 @@ use Rattle.std.proofs.shelf.Tests.{cases-lt}
 use Rattle.tables.specs.declared.Call.{Call}
 use Rattle.tables.specs.declared.Told.{Told}
 use Rattle.messages.specs.declared.Draft.{Draft}
-use Rattle.tables.specs.declared.Phase.{Phase}
-use Rattle.tables.specs.declared.Phase.the-variants.{Open, Waiting, Closing, Granted, Refused, Dropped}
-use Rattle.laws.specs.Lists.{put, In, without, either}
+use Rattle.tables.specs.declared.Phase.the-variants.{Waiting, Closing, Granted, Refused, Dropped}
+use Rattle.laws.specs.Lists.{put, In, without}
 use Rattle.laws.specs.Net.{Record, Body, query, answer, prepare, vote, granted, refused, Message, Placement, Net}
-use Rattle.laws.proofs.Model.{Logged, State, after-step, by-step, next, noting, on, placement, placing, start, then}
-use Rattle.laws.specs.Rules.{Ripe, Rule, Step, Visible, agrees, asks, begins, closes, closes-empty, counts, drafts, drops, fails, grants, hears, lets-go, looks, obeys, objects, refuses, replies, takes-in}
-use Rattle.laws.specs.Words.{blank, opened, in-phase, drafting, reading-at, voting, placed-as, redrafted, unless-none, homed, prepare-to, granted-to, refused-to, prepares, grants-to, refusals-to, Event}
+use Rattle.laws.proofs.Model.{Logged, State, by-step, next, noting, on, placing, start, then}
+use Rattle.laws.specs.Rules.{Rule, agrees, asks, begins, closes, closes-empty, counts, drafts, drops, grants, hears, lets-go, looks, objects, refuses, replies, takes-in}
+use Rattle.laws.specs.State.{placement, Visible}
+use Rattle.laws.specs.Words.{in-phase, drafting, reading-at, voting, redrafted, unless-none, homed, prepare-to, granted-to, refused-to, prepares, grants-to, refusals-to, Event}
 use Rattle.laws.proofs.Lists.{put-all, in-at, in-append, in-without}
 use Rattle.laws.proofs.Frames.{only, differ}
 use Rattle.laws.proofs.Invariant.{Invariant, is-read, is-ballot}
-use Rattle.laws.proofs.Stand.{run-holds}
 
 abbrev Origins : Net → (ℕ → Record) → Type 0
 Origins net rs = (i : ℕ) → rs i .origin < net .towers
@@ -81,7 +80,7 @@ answered-by net s p m q g h t f =
 
 rule-ranges : (net : Net) {s : State} {v′ : Visible} {c : Call} {a : Told} → Ranges net s → (x : Rule net (s .vis) v′ c a) → Ranges net (next net s x)
 rule-ranges net {s} g (begins t l _ e) = subst (λ (w : Visible). Ranges net (on s w)) (sym e) (record { origins = origins-put net (s .vis .records) (s .vis .begun) _ (g .origins) l; mail = g .mail })
-rule-ranges net {s} g (looks i d o h e) = subst (λ (w : Visible). Ranges net (on s w)) (sym e) g
+rule-ranges net {s} g (looks i k d o h e) = subst (λ (w : Visible). Ranges net (on s w)) (sym e) g
 rule-ranges net {s} g (asks i k o _ n e) = subst (λ (w : Visible). Ranges net (on s w)) (sym e) (record {
   origins = origins-put net (s .vis .records) i (in-phase Waiting (s .vis .records i)) (g .origins) (g .origins i);
   mail = mail-sent net (s .vis .air) _ (g .mail) (only (Posted net) _ (net .housed k, g .origins i));

@@ -13,7 +13,7 @@ use Rattle.clocks.specs.declared.Version.{Version}
 use Rattle.tables.specs.declared.Phase.the-variants.{Open, Waiting, Closing, Granted, Refused, Dropped}
 use Rattle.laws.specs.Lists.{put, In, At, without}
 use Rattle.laws.specs.Net.{Clock, Record, Body, query, answer, vote, refused, Message, Net, _⊑_, versions, newest-within, shut}
-use Rattle.laws.proofs.Model.{Answered, State, noting, on, placement, placing}
+use Rattle.laws.proofs.Model.{Answered, State, noting, on}
 use Rattle.laws.specs.Rules.{Ripe, asked, closed, heard, replied}
 use Rattle.laws.specs.Words.{reading-at, letter}
 use Rattle.laws.proofs.Lists.{put-same, put-other, put-case, in-at, tally-at, none-left}

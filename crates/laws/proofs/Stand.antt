@@ -12,8 +12,9 @@ use Rattle.messages.specs.declared.Objection.{Objection}
 use Rattle.laws.proofs.Conflicts.{unopposed, opposed}
 use Rattle.laws.specs.Lists.{In}
 use Rattle.laws.specs.Net.{Record, refused, Placement, Net, Drafted, Seen, seen, shut}
-use Rattle.laws.proofs.Model.{Answered, Logged, State, after-step, by-step, first, next, noting, on, placement, placing, start, then}
-use Rattle.laws.specs.Rules.{Rule, Step, Visible, agrees, asked, asks, begins, closed, closes, closes-empty, counts, drafts, drops, fails, grants, hears, lets-go, looks, obeys, objects, refuses, replies, takes-in, voted}
+use Rattle.laws.proofs.Model.{Logged, State, by-step, first, next, noting, on, placing, start, then}
+use Rattle.laws.specs.Rules.{Rule, agrees, asked, asks, begins, closed, closes, closes-empty, counts, drafts, drops, grants, hears, lets-go, looks, objects, refuses, replies, takes-in, voted}
+use Rattle.laws.specs.State.{placement, Visible}
 use Rattle.laws.specs.Words.{redrafted, homed, granted-to, Event}
 use Rattle.laws.proofs.Placed.{Ordered, number-le, taken-all}
 use Rattle.laws.proofs.Invariant.{Intent, intent, intents, reads, Justified, Invariant}
@@ -29,7 +30,7 @@ use Rattle.laws.proofs.Granting.{takes-in-keeps, grants-keeps}
 
 rule-keeps : (net : Net) {s : State} {v′ : Visible} {c : Call} {a : Told} → Invariant net s → (x : Rule net (s .vis) v′ c a) → Invariant net (next net s x)
 rule-keeps net {s} v (begins t l _ e) = subst (λ (w : Visible). Invariant net (on s w)) (sym e) (begins-keeps net s t v)
-rule-keeps net {s} v (looks i d o h e) = subst (λ (w : Visible). Invariant net (on s w)) (sym e) v
+rule-keeps net {s} v (looks i k d o h e) = subst (λ (w : Visible). Invariant net (on s w)) (sym e) v
 rule-keeps net {s} v (asks i k o _ n e) = subst (λ (w : Visible). Invariant net (on s w)) (sym e) (asks-keeps net s i k v o)
 rule-keeps net {s} v (drafts i k w o _ _ e) = subst (λ (w : Visible). Invariant net (on s w)) (sym e) (drafts-keeps net s i (redrafted k w (s .vis .records i .drafts)) v o)
 rule-keeps net {s} v (drops i o e) = subst (λ (w : Visible). Invariant net (on s w)) (sym e) (drops-keeps net s i v o)

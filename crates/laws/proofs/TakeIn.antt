@@ -14,7 +14,6 @@ use Rattle.tables.specs.declared.Held.{Held}
 use Rattle.laws.specs.Lists.{put, In}
 use Rattle.laws.specs.Net.{Clock, Record, refused, Message, Placement, Net, _⊑_, Drafted, written, wrote, taken, count, Seen}
 use Rattle.laws.specs.Words.{homed, freed}
-use Rattle.laws.proofs.Model.{}
 use Rattle.laws.specs.Rules.{voted}
 use Rattle.laws.proofs.Lists.{put-same, put-other, put-case, put-all}
 use Rattle.laws.proofs.Placed.{Numbered, Ordered, Closed, number-le, put-grows, written-none, taken-more, seen-or-same, closed-put}

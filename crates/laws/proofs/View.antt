@@ -15,7 +15,7 @@ use Rattle.clocks.specs.declared.Version.{Version}
 use Rattle.laws.specs.Lists.{put, At, without, those}
 use Rattle.messages.specs.declared.Draft.{Draft}
 use Rattle.laws.specs.Net.{Clock, written, inside, newest, newest-within}
-use Rattle.laws.specs.Rules.{Visible}
+use Rattle.laws.specs.State.{Visible}
 use Rattle.laws.specs.Words.{holds-of}
 use Rattle.laws.specs.View.{clock-of, clocks-of}
 use Rattle.laws.proofs.Lists.{put-same, put-other, last-append}

@@ -18,8 +18,9 @@ use Rattle.messages.specs.declared.Objection.{Objection}
 use Rattle.laws.proofs.Conflicts.{Conflicts, taken-by, newer, full, either-cases, either-none}
 use Rattle.laws.specs.Lists.{put, In, At, without, either}
 use Rattle.laws.specs.Net.{Clock, Record, prepare, vote, refused, Message, Placement, Net, _⊑_, Drafted, taken, Seen, seen, inside, newest, shut}
-use Rattle.laws.proofs.Model.{State, noting, on, placement, placing}
-use Rattle.laws.specs.Rules.{Ripe, asked, closed, counted, holding, let-go, objection, refusing, voted}
+use Rattle.laws.proofs.Model.{State, on}
+use Rattle.laws.specs.Rules.{Ripe, asked, closed, counted, let-go, refusing, voted}
+use Rattle.laws.specs.State.{holding}
 use Rattle.laws.specs.Words.{voting, letter, unless-none, holds-of, homed, freed, refused-to, refusals-to}
 use Rattle.laws.proofs.Lists.{put-same, put-other, put-case, in-left, in-right, in-append, in-at, in-without, in-rest, tally-append, tally-at, none-left}
 use Rattle.laws.proofs.Placed.{Closed, By, newest-covers, newest-by}

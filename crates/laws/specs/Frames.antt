@@ -18,7 +18,8 @@ use Rattle.tables.specs.declared.Told.{Told}
 use Rattle.laws.specs.Lists.{In}
 use Rattle.laws.specs.Net.{Clock, Record, Body, query, answer, prepare, vote, granted, refused, Message, Net}
 use Rattle.laws.specs.Words.{Event}
-use Rattle.laws.specs.Rules.{Visible, Step, Run, new}
+use Rattle.laws.specs.State.{Visible, new}
+use Rattle.laws.specs.Rules.{Step, Run}
 use Rattle.laws.specs.Laws.{Laws}
 
 -- ## Numbers in range

@@ -1,7 +1,7 @@
 -- Further laws, each by its name.
 use mathlib.Core.Path.{_≡_}
 use mathlib.Core.List.{List, [], _∷_}
-use mathlib.Core.Bool.{Bool, true}
+use mathlib.Core.Bool.{true}
 use mathlib.Core.Logic.{_⊎_, _≢_}
 use Prim.Native.Nat.{ℕ, suc, _+_, _≤_, _<_}
 use lib.Dec.{eqb}
@@ -16,10 +16,11 @@ use Rattle.tables.specs.declared.Told.{Told}
 use Rattle.tables.specs.declared.Phase.{Phase}
 use Rattle.tables.specs.declared.Phase.the-variants.{Waiting, Closing, Granted, Refused}
 use Rattle.laws.specs.Lists.{In, At, tally, either}
-use Rattle.laws.specs.Net.{Clock, Body, query, answer, prepare, vote, granted, refused, Message, Net, _⊑_, Drafted, shut, ballots, is-ballot, owed-of}
+use Rattle.laws.specs.Net.{Body, query, answer, prepare, vote, granted, refused, Message, Net, _⊑_, Drafted, shut, ballots, is-ballot, owed-of}
 use Rattle.laws.specs.Words.{Event}
 use Rattle.laws.specs.History.{placedIn, begunIn, placedBeforeIn, originIn, draftsIn, numberIn, Within, Outside}
-use Rattle.laws.specs.Rules.{Visible, Rule, Run}
+use Rattle.laws.specs.State.{Visible}
+use Rattle.laws.specs.Rules.{Rule, Run}
 
 -- it holds of every history, and of what the net then holds
 abbrev pub Always : (Net → List Event → Visible → Type 0) → Type 0

@@ -16,7 +16,8 @@ use Rattle.laws.specs.Lists.{In}
 use Rattle.laws.specs.Net.{Clock, Message, granted, Net, Drafted, shut, content-of, writer-of}
 use Rattle.laws.specs.Words.{Event}
 use Rattle.laws.specs.History.{placedIn, Earlier, begunIn, Counted, draftsIn, Within, Outside, versionsIn, Heard, readsIn}
-use Rattle.laws.specs.Rules.{Visible, Run}
+use Rattle.laws.specs.State.{Visible}
+use Rattle.laws.specs.Rules.{Run}
 
 -- no granted outcome is in the air
 abbrev pub No-grant-flies : Visible → Type 0

@@ -1,6 +1,8 @@
 pub mod Lists
 pub mod Net
 pub mod Words
+pub mod State
+pub mod Faults
 pub mod View
 pub mod History
 pub mod Rules

@@ -1,20 +1,19 @@
 -- What each call does to what the towers, the tables and the air hold.
 use mathlib.Core.Path.{_≡_}
 use mathlib.Core.List.{List, [], _∷_, _++_}
-use mathlib.Core.Bool.{Bool, true, false, cond, not}
+use mathlib.Core.Bool.{Bool, cond, not}
 use mathlib.Core.Logic.{_≢_}
 use Prim.Native.Nat.{ℕ, suc, pred, _≤_, _<_}
 use lib.ListN.{length}
 use Rattle.std.specs.declared.option.Option.{Option}
 use Rattle.std.specs.declared.option.Option.the-variants.{Some, None}
-use Rattle.laws.specs.Lists.{put, In, At, without, either}
-use Rattle.laws.specs.Net.{Clock, Record, query, answer, prepare, vote, granted, refused, Message, Net, _⊑_, Drafted, written, newest-within, content-of, writer-of}
-use Rattle.laws.specs.Words.{blank, opened, in-phase, drafting, reading-at, voting, placed-as, letter, redrafted, holds-of, conflict-at, first-objection, homed, freed, prepares, grants-to, refusals-to, Event}
+use Rattle.laws.specs.Lists.{put, At, either}
+use Rattle.laws.specs.Net.{Clock, query, answer, prepare, vote, granted, refused, Message, Net, _⊑_, newest-within, content-of, writer-of}
+use Rattle.laws.specs.State.{Visible, amended, sent, landed, holding, took-in, read, placing, new, granted-record, placement}
+use Rattle.laws.specs.Faults.{first-fault}
+use Rattle.laws.specs.Words.{draft-of, opened, in-phase, drafting, reading-at, voting, letter, redrafted, holds-of, conflict-at, first-objection, homed, freed, prepares, grants-to, refusals-to, Event}
 use Rattle.clocks.specs.declared.Version.{Version}
 use Rattle.messages.specs.declared.Draft.{Draft}
-use Rattle.tables.specs.declared.Held.{Held}
-use Rattle.tables.specs.declared.Reading.{Reading}
-use Rattle.messages.specs.declared.Conflict.{Conflict}
 use Rattle.messages.specs.Table.{conflictMark}
 use Rattle.clocks.specs.declared.Content.{Content}
 use Rattle.faults.specs.declared.Cause.{Cause}
@@ -24,43 +23,6 @@ use Rattle.tables.specs.declared.Call.{Call}
 use Rattle.tables.specs.declared.Call.the-variants.{Begin, Read, Draft as Write, Close, Drop as Abandon, Deliver}
 use Rattle.tables.specs.declared.Told.{Told}
 use Rattle.tables.specs.declared.Told.the-variants.{Begun, Own, Sent, Drafts, ReadOnly, Dropped as ToldDropped, Queried, Shown, Prepared, Awaiting, Placed, Refused as ToldRefused, Ended, Fault}
-
--- what the towers, the tables, the book and the air hold
-pub record Visible : Type 0 where
-  -- how many transactions were given, and the last place
-  pub begun : ℕ
-  pub last : ℕ
-  pub records : ℕ → Record
-  pub clocks : ℕ → Clock
-  pub book : ℕ → List Version
-  pub held : List Held
-  pub air : List Message
-  -- the oldest first
-  pub readings : List Reading
-
--- ## A state, changed at one place
-
-abbrev pub amended : Visible → ℕ → Record → Visible
-amended v i r = record { begun = v .begun; last = v .last; records = put (v .records) i r; clocks = v .clocks; book = v .book; held = v .held; air = v .air; readings = v .readings }
-
-abbrev pub sent : Visible → List Message → Visible
-sent v ms = record { begun = v .begun; last = v .last; records = v .records; clocks = v .clocks; book = v .book; held = v .held; air = v .air ++ ms; readings = v .readings }
-
-abbrev pub landed : Visible → ℕ → Visible
-landed v p = record { begun = v .begun; last = v .last; records = v .records; clocks = v .clocks; book = v .book; held = v .held; air = without (v .air) p; readings = v .readings }
-
-abbrev pub holding : Visible → List Held → Visible
-holding v hs = record { begun = v .begun; last = v .last; records = v .records; clocks = v .clocks; book = v .book; held = hs; air = v .air; readings = v .readings }
-
--- tower t takes in what the transaction w wrote there, and its clock passes it
-abbrev pub took-in : Visible → ℕ → ℕ → ℕ → ℕ → List Draft → Visible
-took-in v t w o n lines = record { begun = v .begun; last = v .last; records = v .records; clocks = put (v .clocks) t (put (v .clocks t) o n); book = λ k. v .book k ++ written w o n lines k; held = v .held; air = v .air; readings = v .readings }
-
-abbrev pub read : Visible → Reading → Visible
-read v d = record { begun = v .begun; last = v .last; records = v .records; clocks = v .clocks; book = v .book; held = v .held; air = v .air; readings = v .readings ++ d ∷ [] }
-
-abbrev pub placing : Visible → Visible
-placing v = record { begun = v .begun; last = suc (v .last); records = v .records; clocks = v .clocks; book = v .book; held = v .held; air = v .air; readings = v .readings }
 
 module _ (net : Net) where
   -- ## The calls
@@ -105,9 +67,8 @@ module _ (net : Net) where
   granting v p m =
       let i = m .tx in
       let o = v .records i .origin in
-      let r = voting Granted 0 None (suc (v .clocks o o)) (v .records i) in
-      let T = placed-as i r in
-      sent (holding (took-in (placing (amended (landed v p) i r)) o i o (T .number) (homed net o (T .drafts))) (freed net i o (v .held)))
+      let T = placement v i in
+      sent (holding (took-in (placing (amended (landed v p) i (granted-record v i))) o i o (T .number) (homed net o (T .drafts))) (freed net i o (v .held)))
       (grants-to net T (net .towers))
 
   -- .. the last vote, and one was a no
@@ -140,9 +101,9 @@ module _ (net : Net) where
   pub data Rule (v v′ : Visible) : Call → Told → Type 0 where
     begins : (t : ℕ) → t < net .towers → v .begun < net .transactions →
         v′ ≡ begun-at v t → Rule v v′ (Begin t) (Begun (v .begun))
-    looks : (i : ℕ) (d : Draft) → v .records i .phase ≡ Open → In d (v .records i .drafts) →
-        v′ ≡ v → Rule v v′ (Read i (d .key)) (Own (d .content))
-    asks : (i k : ℕ) → v .records i .phase ≡ Open → k < net .keys → (Drafted (v .records i .drafts) k → ⊥) →
+    looks : (i k : ℕ) (d : Draft) → v .records i .phase ≡ Open → draft-of k (v .records i .drafts) ≡ Some d →
+        v′ ≡ v → Rule v v′ (Read i k) (Own (d .content))
+    asks : (i k : ℕ) → v .records i .phase ≡ Open → k < net .keys → draft-of k (v .records i .drafts) ≡ None →
         v′ ≡ asked v i k → Rule v v′ (Read i k) (Sent 1)
     drafts : (i k : ℕ) (x : Content) → v .records i .phase ≡ Open → k < net .keys → length (redrafted k x (v .records i .drafts)) ≤ net .most →
         v′ ≡ amended v i (drafting (redrafted k x (v .records i .drafts)) (v .records i)) → Rule v v′ (Write i k x) (Drafts (length (redrafted k x (v .records i .drafts))))
@@ -174,12 +135,8 @@ module _ (net : Net) where
   -- ## A call is turned down, and nothing changes, or it is obeyed
 
   pub data Step (v v′ : Visible) (c : Call) : Told → Type 0 where
-    fails : (f : Cause) → v′ ≡ v → Step v v′ c (Fault f)
-    obeys : {a : Told} → Rule v v′ c a → Step v v′ c a
-
--- the net at first
-abbrev pub new : Visible
-new = record { begun = 0; last = 0; records = λ _. blank; clocks = λ _ _. 0; book = λ _. []; held = []; air = []; readings = [] }
+    fails : (f : Cause) → first-fault net v c ≡ Some f → v′ ≡ v → Step v v′ c (Fault f)
+    obeys : {a : Told} → first-fault net v c ≡ None → Rule v v′ c a → Step v v′ c a
 
 -- the net after the calls of a history
 pub data Run (net : Net) : List Event → Visible → Type 0 where

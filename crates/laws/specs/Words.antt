@@ -1,15 +1,13 @@
 -- Records and messages, as the calls change and send them.
-use mathlib.Core.Path.{_≡_}
 use mathlib.Core.List.{List, [], _∷_, _++_}
 use mathlib.Core.Bool.{Bool, true, false, cond, not, _&&_}
-use mathlib.Core.Logic.{_≢_}
-use Prim.Native.Nat.{ℕ, zero, suc, pred, _<_}
+use Prim.Native.Nat.{ℕ, zero, suc}
 use lib.Dec.{eqb}
 use lib.ListN.{length}
 use Rattle.std.specs.declared.option.Option.{Option}
 use Rattle.std.specs.declared.option.Option.the-variants.{Some, None}
 use Rattle.laws.specs.Lists.{those, either, first-of}
-use Rattle.laws.specs.Net.{Clock, Record, Body, query, answer, prepare, vote, granted, refused, Message, Placement, Net, _⊑_, Drafted, written, inside, newest, newest-within, content-of}
+use Rattle.laws.specs.Net.{Clock, Record, Body, prepare, granted, refused, Message, Placement, Net, inside, newest}
 use Rattle.clocks.specs.declared.Content.{Content}
 use Rattle.clocks.specs.declared.Version.{Version}
 use Rattle.messages.specs.declared.Draft.{Draft}
@@ -18,11 +16,9 @@ use Rattle.messages.specs.declared.Conflict.{Conflict}
 use Rattle.messages.specs.declared.Conflict.the-variants.{Held as HeldBy, Newer, Full}
 use Rattle.tables.specs.declared.Held.{Held}
 use Rattle.tables.specs.declared.Phase.{Phase}
-use Rattle.tables.specs.declared.Phase.the-variants.{Open, Waiting, Closing, Granted, Refused, Dropped}
+use Rattle.tables.specs.declared.Phase.the-variants.{Open, Dropped}
 use Rattle.tables.specs.declared.Call.{Call}
-use Rattle.tables.specs.declared.Call.the-variants.{Begin, Read, Draft as Write, Close, Drop as Abandon, Deliver}
 use Rattle.tables.specs.declared.Told.{Told}
-use Rattle.tables.specs.declared.Told.the-variants.{Begun, Own, Sent, Drafts, ReadOnly, Dropped as ToldDropped, Queried, Shown, Prepared, Awaiting, Placed, Refused as ToldRefused, Ended, Fault}
 
 -- ## A record, changed at one place
 
@@ -57,6 +53,10 @@ letter i f t b body = record { tx = i; from = f; to = t; bound = b; body = body 
 abbrev pub redrafted : ℕ → Content → List Draft → List Draft
 redrafted k v [] = record { key = k; content = v } ∷ []
 redrafted k v (d ∷ ds) = cond (eqb (d .key) k) (record { key = k; content = v } ∷ ds) (d ∷ redrafted k v ds)
+
+-- the draft of a key
+abbrev pub draft-of : ℕ → List Draft → Option Draft
+draft-of k ds = first-of (λ d. eqb (d .key) k) ds
 
 abbrev pub unless-none : List Draft → Message → List Message
 unless-none [] m = []
