@@ -24,5 +24,6 @@ pub mod Kept
 pub mod View
 pub mod Fits
 pub mod Carry
-pub mod Deliver
+pub mod Answering
+pub mod Determined
 mod Pair

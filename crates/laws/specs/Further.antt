@@ -11,7 +11,7 @@ use Rattle.std.specs.declared.option.Option.the-variants.{Some, None}
 use Rattle.clocks.specs.declared.Version.{Version}
 use Rattle.messages.specs.declared.Draft.{Draft}
 use Rattle.messages.specs.declared.Objection.{Objection}
-use Rattle.tables.specs.declared.Call.the-variants.{Deliver}
+use Rattle.tables.specs.declared.Call.{Call}
 use Rattle.tables.specs.declared.Told.{Told}
 use Rattle.tables.specs.declared.Phase.{Phase}
 use Rattle.tables.specs.declared.Phase.the-variants.{Waiting, Closing, Granted, Refused}
@@ -20,7 +20,7 @@ use Rattle.laws.specs.Net.{Body, query, answer, prepare, vote, granted, refuse
 use Rattle.laws.specs.Words.{Event}
 use Rattle.laws.specs.History.{placedIn, begunIn, placedBeforeIn, originIn, draftsIn, numberIn, Within, Outside}
 use Rattle.laws.specs.State.{Visible}
-use Rattle.laws.specs.Rules.{Rule, Run}
+use Rattle.laws.specs.Rules.{Step, Run}
 
 -- it holds of every history, and of what the net then holds
 abbrev pub Always : (Net → List Event → Visible → Type 0) → Type 0
@@ -87,21 +87,17 @@ pub record At-home (net : Net) (h : List Event) (v : Visible) (m : Message) : Ty
 abbrev pub Messages-at-home : Net → List Event → Visible → Type 0
 Messages-at-home net h v = (m : Message) → In m (v .air) → At-home net h v m
 
--- a message comes too early for its receiver, whose clock has not passed its bound, or not what was placed just before it
-abbrev pub Behind : Visible → Message → Type 0
-Behind v m = (j : ℕ) × (v .clocks (m .to) j < m .bound j)
+-- whatever is called, there is something to tell
+abbrev pub Every-call-answered : Net → List Event → Visible → Type 0
+Every-call-answered net h v = (c : Call) → (a : Told) × (v′ : Visible) × Step net v v′ c a
 
-abbrev pub Too-early : Visible → Message → Body → Type 0
-Too-early v m (query k f) = Behind v m
-Too-early v m (answer k s) = ⊥
-Too-early v m (prepare ls) = Behind v m
-Too-early v m (vote n) = Behind v m
-Too-early v m (granted n ls) = Behind v m ⊎ (suc (v .clocks (m .to) (m .from)) ≢ n)
-Too-early v m refused = ⊥
+-- a call tells one thing, and does one thing
+pub record Same-answer (a b : Told) (v w : Visible) : Type 0 where
+  pub told : a ≡ b
+  pub state : v ≡ w
 
--- whatever is in the air is too early, or its delivery can be obeyed
-abbrev pub Deliverable : Net → List Event → Visible → Type 0
-Deliverable net h v = (p : ℕ) (m : Message) → At (v .air) p m → Too-early v m (m .body) ⊎ ((v′ : Visible) × (a : Told) × Rule net v v′ (Deliver p) a)
+abbrev pub Answers-determined : Type 0
+Answers-determined = (net : Net) (v v′ v″ : Visible) (c : Call) (a b : Told) → Step net v v′ c a → Step net v v″ c b → Same-answer a b v′ v″
 
 -- a key is held once, so that a place for each key is enough
 pub record Held-once (net : Net) (h : List Event) (v : Visible) : Type 0 where

@@ -2,7 +2,7 @@
 
 ghost use Rattle.laws.specs.Laws.{Laws-stand};
 ghost use Rattle.laws.specs.Frames.{Numbers-in-range, Frames-carry};
-ghost use Rattle.laws.specs.Further.{Always, Deliverable, Held-once, Records-agree, Causally-closed, Accounted, Versions-within-clock, Closing-awaits, Finds-room, Own-tower-seen, Messages-at-home, Both-granted};
+ghost use Rattle.laws.specs.Further.{Always, Every-call-answered, Answers-determined, Held-once, Records-agree, Causally-closed, Accounted, Versions-within-clock, Closing-awaits, Finds-room, Own-tower-seen, Messages-at-home, Both-granted};
 
 // The laws hold of every history, and of what the net then holds.
 pub fn laws_stand() -> u8
@@ -95,9 +95,16 @@ pub fn records_agree() -> u8
     0
 }
 
-// Whatever is in the air is too early, or its delivery can be obeyed.
-pub fn deliverable() -> u8
-    ensures { λ _. ⌜ Always Deliverable ⌝ }
+// Whatever is called, there is something to tell.
+pub fn every_call_answered() -> u8
+    ensures { λ _. ⌜ Always Every-call-answered ⌝ }
+{
+    0
+}
+
+// A call tells one thing and does one thing, whatever the net holds.
+pub fn answers_determined() -> u8
+    ensures { λ _. ⌜ Answers-determined ⌝ }
 {
     0
 }
