@@ -26,4 +26,5 @@ pub mod Fits
 pub mod Carry
 pub mod Answering
 pub mod Determined
+pub mod Examples
 mod Pair

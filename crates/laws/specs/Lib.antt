@@ -9,3 +9,4 @@ pub mod Rules
 pub mod Laws
 pub mod Further
 pub mod Frames
+pub mod Examples
