@@ -43,7 +43,7 @@ pub either-none : {A : Type 0} (o q : Option A) → either o q ≡ None → (o �
 either-none (Some a) q e = absurd (none-some e refl)
 either-none None q e = (refl, e)
 
-first-is : {A : Type 0} (q : A → Bool) (xs : List A) (v : A) → first-of q xs ≡ Some v → In v xs × (q v ≡ true)
+pub first-is : {A : Type 0} (q : A → Bool) (xs : List A) (v : A) → first-of q xs ≡ Some v → In v xs × (q v ≡ true)
 first-is q [] v e = absurd (none-some refl e)
 first-is q (x ∷ xs) v e = go (q x) refl (first-is q xs v) e
   where
@@ -127,7 +127,7 @@ line-found k (Some c) a e =
     let z : _≡_ {A = Objection} (record { key = k; conflict = c }) a = cc e in
     (ap (λ (x : Objection). x .key) z, ap (λ (x : Objection). Some (x .conflict)) z)
 
-lines-found : (C : ℕ → Option told.Conflict) (ds : List Draft) (a : Objection) → first-objection C ds ≡ Some a → Drafted ds (a .key) × (C (a .key) ≡ Some (a .conflict))
+pub lines-found : (C : ℕ → Option told.Conflict) (ds : List Draft) (a : Objection) → first-objection C ds ≡ Some a → Drafted ds (a .key) × (C (a .key) ≡ Some (a .conflict))
 lines-found C [] a e = absurd (none-some refl e)
 lines-found C (x ∷ ds) a e = elim (either-cases (objection-at (x .key) (C (x .key))) _ a e) [
   | inl q ↦ (let r = line-found (x .key) (C (x .key)) a q in (inl (r .0), subst (λ (n : ℕ). C n ≡ Some (a .conflict)) (r .0) (r .1)))

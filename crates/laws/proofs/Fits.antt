@@ -1,7 +1,7 @@
 -- Whatever the net holds or sends is in range. Assumes nothing.
 use mathlib.Core.Path.{_≡_, refl, sym, subst}
 use mathlib.Core.List.{List, [], _∷_, _++_}
-use mathlib.Core.Bool.{Bool, true, false, cond, not}
+use mathlib.Core.Bool.{Bool, true, false, cond, not, _&&_}
 use mathlib.Core.Logic.{_⊎_, inl, inr, _≢_}
 use Prim.Native.Nat.{ℕ, zero, suc, pred, _≤_, _<_}
 use native.Mathlib.Omega.{arith}
@@ -17,13 +17,16 @@ use Rattle.tables.specs.declared.Told.{Told}
 use Rattle.tables.specs.declared.Phase.the-variants.{Open, Waiting, Closing, Granted, Refused, Dropped}
 use Rattle.messages.specs.declared.Objection.{Objection}
 use Rattle.clocks.specs.declared.Content.{Content}
-use Rattle.laws.proofs.Conflicts.{opposed}
-use Rattle.laws.specs.Lists.{put, In, At, without, those, either}
-use Rattle.laws.specs.Net.{Clock, Record, Body, query, answer, prepare, vote, granted, Message, Placement, Net, Drafted, written, inside, newest-within}
-use Rattle.laws.specs.Words.{opened, in-phase, drafting, reading-at, voting, placed-as, letter, redrafted, unless-none, homed, prepare-to, granted-to, refused-to, prepares, grants-to, refusals-to, Event}
+use Rattle.laws.proofs.Conflicts.{none-some, either-cases, first-is, lines-found}
+use Rattle.messages.specs.declared.Conflict.{Conflict}
+use Rattle.messages.specs.declared.Conflict.the-variants.{Held as HeldBy, Newer, Full}
+use Rattle.tables.specs.declared.Held.{Held}
+use Rattle.laws.specs.Lists.{put, In, At, without, those, either, first-of}
+use Rattle.laws.specs.Net.{Clock, Record, Body, query, answer, prepare, vote, granted, Message, Placement, Net, Drafted, written, inside, newest-within, newest}
+use Rattle.laws.specs.Words.{opened, in-phase, drafting, reading-at, voting, placed-as, letter, redrafted, unless-none, homed, prepare-to, granted-to, refused-to, prepares, grants-to, refusals-to, Event, holds-of, freed, another-holds, held-conflict, newer-conflict, conflict-at}
 use Rattle.laws.specs.State.{Visible}
 use Rattle.laws.specs.Rules.{Rule, Step, Run, start, then, fails, obeys, begins, looks, asks, drafts, drops, closes-empty, closes, replies, hears, agrees, objects, counts, grants, refuses, takes-in, lets-go}
-use Rattle.laws.specs.Frames.{Fit-clock, Fit-version, Fit-lines, Fit-shown, Fit-named, Fit-body, Fit, Fit-record, In-range, Call-ok, Calls-ok, Numbers-in-range}
+use Rattle.laws.specs.Frames.{Fit-clock, Fit-version, Fit-lines, Fit-shown, Fit-named, Fit-body, Fit, Fit-record, Fit-held, Fit-conflict, In-range, Call-ok, Calls-ok, Numbers-in-range}
 use Rattle.laws.specs.Further.{Always}
 use Rattle.laws.proofs.Lists.{put-same, put-case, put-all, in-at, in-append, in-without, in-those}
 use Rattle.laws.proofs.Frames.{only, differ}
@@ -98,7 +101,54 @@ module _ (net : Net) (ok : Content → Bool) where
       go (Some x) e = f x (last-is (inside c) xs x e .0)
       go None e = tt
 
+  -- ## Held keys
+
+  abbrev Tray : List Held → Type 0
+  Tray hs = (x : Held) → In x hs → Fit-held net x
+
+  holds-fit : (i o : ℕ) (ds : List Draft) → i < net .transactions → o < net .towers → ((d : Draft) → In d ds → (d .key < net .keys) × (ok (d .content) ≡ true)) → Tray (holds-of i o ds)
+  holds-fit i o [] a b f x h = absurd h
+  holds-fit i o (d ∷ ds) a b f x (inl e) = subst (Fit-held net) (sym e) (record { key = f d (inl refl) .0; tx = a; origin = b })
+  holds-fit i o (d ∷ ds) a b f x (inr h) = holds-fit i o ds a b (λ y q. f y (inr q)) x h
+
+  tray-more : (hs gs : List Held) → Tray hs → Tray gs → Tray (hs ++ gs)
+  tray-more hs gs g f x h = elim (in-append x hs gs h) [ inl h ↦ g x h | inr h ↦ f x h ]
+
+  tray-freed : (i t : ℕ) (hs : List Held) → Tray hs → Tray (freed net i t hs)
+  tray-freed i t hs g x h = g x (in-those (λ h. not (eqb (h .tx) i && eqb (net .home (h .key)) t)) hs x h .0)
+
   -- ## Names
+
+  conflict-fit : (hs : List Held) (xs : List Version) (b : Clock) (i k : ℕ) (c : Conflict) → Tray hs → ((x : Version) → In x xs → Fit-version net ok x) → conflict-at (net .depth) hs xs b i k ≡ Some c → Fit-conflict net c
+  conflict-fit hs xs b i k c g f e = elim (either-cases (held-conflict (first-of (another-holds i k) hs)) _ c e) [
+    | inl q ↦ by-held (first-of (another-holds i k) hs) refl q
+    | inr q ↦ elim (either-cases (newer-conflict b (newest xs)) _ c (q .1)) [
+      | inl r ↦ by-newer (newest xs) refl r
+      | inr r ↦ by-full (eqb (length xs) (net .depth)) (r .1)
+    ]
+  ]
+    where
+      by-held : (o : Option Held) → first-of (another-holds i k) hs ≡ o → held-conflict o ≡ Some c → Fit-conflict net c
+      by-held None q e = absurd (none-some refl e)
+      by-held (Some h) q e =
+          let z : HeldBy (h .origin) (h .tx) ≡ c = cc e in
+          let x = g h (first-is (another-holds i k) hs h q .0) in
+          subst (Fit-conflict net) z (x .origin, x .tx)
+
+      by-newer : (o : Option Version) → newest xs ≡ o → newer-conflict b o ≡ Some c → Fit-conflict net c
+      by-newer None q e = absurd (none-some refl e)
+      by-newer (Some x) q e = go (inside b x) e
+        where
+          go : (t : Bool) → cond t None (Some (Newer (x .origin) (x .writer) (x .number))) ≡ Some c → Fit-conflict net c
+          go true e = absurd (none-some refl e)
+          go false e =
+              let z : Newer (x .origin) (x .writer) (x .number) ≡ c = cc e in
+              let y = f x (last-is (λ _. true) xs x q .0) in
+              subst (Fit-conflict net) z (y .origin, y .writer, y .counted, y .small)
+
+      by-full : (t : Bool) → cond t (Some Full) None ≡ Some c → Fit-conflict net c
+      by-full true e = let z : Full ≡ c = cc e in subst (Fit-conflict net) z tt
+      by-full false e = absurd (none-some refl e)
 
   either-fit : (a b : Option Objection) → Fit-named net a → Fit-named net b → Fit-named net (either a b)
   either-fit (Some k) b f g = f
@@ -155,6 +205,7 @@ module _ (net : Net) (ok : Content → Bool) where
     clocks = g .clocks;
     records = records-put (v .records) (v .begun) (opened t (v .clocks t)) (g .records) (record { origin = l; bound = g .clocks t; drafts = record { each = λ d h. absurd h; few = omega arith }; named = tt });
     book = g .book;
+    held = g .held;
     air = g .air;
   })
   rule-fits op sm y g (looks i k d o h e) = subst (In-range net ok) (sym e) g
@@ -166,6 +217,7 @@ module _ (net : Net) (ok : Content → Bool) where
         clocks = g .clocks;
         records = records-put (v .records) i (in-phase Waiting (v .records i)) (g .records) (record { origin = r .origin; bound = r .bound; drafts = r .drafts; named = r .named });
         book = g .book;
+        held = g .held;
         air = mail-sent (v .air) _ (g .air) (only (Fit net ok) (letter i (v .records i .origin) (net .home k) (v .records i .bound) (query k (not (v .records i .answered)))) (record { tx = b; from = r .origin; to = net .housed k; bound = r .bound; body = l }));
       })
   rule-fits {v} op sm y g (drafts i k x o a l e) = subst (In-range net ok) (sym e) (
@@ -175,6 +227,7 @@ module _ (net : Net) (ok : Content → Bool) where
         clocks = g .clocks;
         records = records-put (v .records) i (drafting (redrafted k x (v .records i .drafts)) (v .records i)) (g .records) (record { origin = r .origin; bound = r .bound; drafts = redrafted-fit k x (v .records i .drafts) a y l (r .drafts); named = r .named });
         book = g .book;
+        held = g .held;
         air = g .air;
       })
   rule-fits {v} op sm y g (drops i o e) = subst (In-range net ok) (sym e) (
@@ -184,6 +237,7 @@ module _ (net : Net) (ok : Content → Bool) where
         clocks = g .clocks;
         records = records-put (v .records) i (in-phase Dropped (v .records i)) (g .records) (record { origin = r .origin; bound = r .bound; drafts = r .drafts; named = r .named });
         book = g .book;
+        held = g .held;
         air = g .air;
       })
   rule-fits {v} op sm y g (closes-empty i o n e) = subst (In-range net ok) (sym e) (
@@ -193,6 +247,7 @@ module _ (net : Net) (ok : Content → Bool) where
         clocks = g .clocks;
         records = records-put (v .records) i (voting Granted 0 None 0 (v .records i)) (g .records) (record { origin = r .origin; bound = r .bound; drafts = r .drafts; named = tt });
         book = g .book;
+        held = g .held;
         air = g .air;
       })
   rule-fits {v} op sm y g (closes i o n e) = subst (In-range net ok) (sym e) (
@@ -204,6 +259,7 @@ module _ (net : Net) (ok : Content → Bool) where
         clocks = g .clocks;
         records = records-put (v .records) i (voting Closing (length ms) None 0 (v .records i)) (g .records) (record { origin = r .origin; bound = r .bound; drafts = r .drafts; named = tt });
         book = g .book;
+        held = g .held;
         air = mail-sent (v .air) ms (g .air) (mail-prepares i (v .records i) (net .towers) b r (omega arith));
       })
   rule-fits {v} op sm y g (replies p m k first r b e) = subst (In-range net ok) (sym e) (
@@ -215,6 +271,7 @@ module _ (net : Net) (ok : Content → Bool) where
         clocks = g .clocks;
         records = g .records;
         book = g .book;
+        held = g .held;
         air = answered-by (v .air) p m c (answer k (newest-within c (v .book k))) (g .air) (r .there) (clock-choice first (v .clocks (m .to)) (m .bound) (g .clocks (m .to)) (h .bound)) (kb, shown-fit c (v .book k) (g .book k));
       })
   rule-fits {v} op sm y g (hears p m k shown a b e) = subst (In-range net ok) (sym e) (
@@ -225,13 +282,18 @@ module _ (net : Net) (ok : Content → Bool) where
         clocks = g .clocks;
         records = records-put (v .records) (m .tx) (reading-at (m .bound) (v .records (m .tx))) (g .records) (record { origin = r .origin; bound = h .bound; drafts = r .drafts; named = r .named });
         book = g .book;
+        held = g .held;
         air = mail-landed (v .air) p (g .air);
       })
-  rule-fits {v} op sm y g (agrees p m lines r b n e) = subst (In-range net ok) (sym e) (record {
+  rule-fits {v} op sm y g (agrees p m lines r b n e) = subst (In-range net ok) (sym e) (
+      let q = g .air m (in-at (v .air) p m (r .there)) in
+      let f : Fit-body net ok (prepare lines) = subst (Fit-body net ok) b (q .body) in
+      record {
     begun = g .begun;
     clocks = g .clocks;
     records = g .records;
     book = g .book;
+    held = tray-more (v .held) (holds-of (m .tx) (m .from) lines) (g .held) (holds-fit (m .tx) (m .from) lines (q .tx) (q .from) (f .0 .each));
     air = answered-by (v .air) p m (m .bound) (vote None) (g .air) (r .there) (g .air m (in-at (v .air) p m (r .there)) .bound) tt;
   })
   rule-fits {v} op sm y g (objects p m lines k r b x e) = subst (In-range net ok) (sym e) (
@@ -242,7 +304,8 @@ module _ (net : Net) (ok : Content → Bool) where
         clocks = g .clocks;
         records = g .records;
         book = g .book;
-        air = answered-by (v .air) p m (m .bound) (vote (Some k)) (g .air) (r .there) (h .bound) (drafted-fit lines (k .key) (f .0 .each) (opposed net v m lines k x .0));
+        held = g .held;
+        air = answered-by (v .air) p m (m .bound) (vote (Some k)) (g .air) (r .there) (h .bound) (let w = lines-found _ lines k x in (drafted-fit lines (k .key) (f .0 .each) (w .0), conflict-fit (v .held) (v .book (k .key)) (m .bound) (m .tx) (k .key) (k .conflict) (g .held) (g .book (k .key)) (w .1)));
       })
   rule-fits {v} op sm y g (counts p m named r b l e) = subst (In-range net ok) (sym e) (
       let h = g .air m (in-at (v .air) p m (r .there)) in
@@ -253,6 +316,7 @@ module _ (net : Net) (ok : Content → Bool) where
         records = records-put (v .records) (m .tx) (voting Closing (pred (v .records (m .tx) .awaited)) (either (v .records (m .tx) .named) named) 0 (v .records (m .tx))) (g .records)
             (record { origin = x .origin; bound = x .bound; drafts = x .drafts; named = either-fit (v .records (m .tx) .named) named (x .named) (subst (Fit-body net ok) b (h .body)) });
         book = g .book;
+        held = g .held;
         air = mail-landed (v .air) p (g .air);
       })
   rule-fits {v} op sm y g (grants p m named r b l q e) = subst (In-range net ok) (sym e) (
@@ -270,12 +334,13 @@ module _ (net : Net) (ok : Content → Bool) where
         clocks = put-all (Fit-clock net) (v .clocks) o (put (v .clocks o) o n) (clock-put (v .clocks o) o n (x .origin) top (g .clocks o)) (g .clocks);
         records = records-put (v .records) i w (g .records) (record { origin = x .origin; bound = x .bound; drafts = x .drafts; named = tt });
         book = λ k y z. elim (in-append y (v .book k) _ z) [ inl z ↦ g .book k y z | inr z ↦ written-fit i o n (homed net o (v .records i .drafts)) k y (h .tx) (x .origin) (omega arith) top (homed-fit o (v .records i .drafts) (x .drafts) .each) z ];
+        held = tray-freed i o (v .held) (g .held);
         air = mail-sent (without (v .air) p) _ (mail-landed (v .air) p (g .air)) (mail-grants (placed-as i w) (net .towers) (h .tx) (x .origin) (x .bound) (let z : 1 ≤ n = omega arith in z) top (x .drafts) (omega arith));
       })
   rule-fits {v} op sm y g (refuses p m named k r b l q e) = subst (In-range net ok) (sym e) (
       let h = g .air m (in-at (v .air) p m (r .there)) in
       let x = g .records (m .tx) in
-      let f : k .key < net .keys = subst (Fit-named net) q (either-fit (v .records (m .tx) .named) named (x .named) (subst (Fit-body net ok) b (h .body))) in
+      let f : Fit-named net (Some k) = subst (Fit-named net) q (either-fit (v .records (m .tx) .named) named (x .named) (subst (Fit-body net ok) b (h .body))) in
       let w = voting Refused 0 (Some k) 0 (v .records (m .tx)) in
       let fw : Fit-record net ok w = record { origin = x .origin; bound = x .bound; drafts = x .drafts; named = f } in
       record {
@@ -283,6 +348,7 @@ module _ (net : Net) (ok : Content → Bool) where
         clocks = g .clocks;
         records = records-put (v .records) (m .tx) w (g .records) fw;
         book = g .book;
+        held = tray-freed (m .tx) (v .records (m .tx) .origin) (v .held) (g .held);
         air = mail-sent (without (v .air) p) _ (mail-landed (v .air) p (g .air)) (mail-refusals (m .tx) w (net .towers) (h .tx) fw (omega arith));
       })
   rule-fits {v} op sm y g (takes-in p m n lines r b l e) = subst (In-range net ok) (sym e) (
@@ -293,9 +359,10 @@ module _ (net : Net) (ok : Content → Bool) where
         clocks = put-all (Fit-clock net) (v .clocks) (m .to) (put (v .clocks (m .to)) (m .from) n) (clock-put (v .clocks (m .to)) (m .from) n (h .from) (f .1) (g .clocks (m .to))) (g .clocks);
         records = g .records;
         book = λ k y z. elim (in-append y (v .book k) _ z) [ inl z ↦ g .book k y z | inr z ↦ written-fit (m .tx) (m .from) n lines k y (h .tx) (h .from) (f .0) (f .1) (f .2 .each) z ];
+        held = tray-freed (m .tx) (m .to) (v .held) (g .held);
         air = mail-landed (v .air) p (g .air);
       })
-  rule-fits {v} op sm y g (lets-go p m a b e) = subst (In-range net ok) (sym e) (record { begun = g .begun; clocks = g .clocks; records = g .records; book = g .book; air = mail-landed (v .air) p (g .air) })
+  rule-fits {v} op sm y g (lets-go p m a b e) = subst (In-range net ok) (sym e) (record { begun = g .begun; clocks = g .clocks; records = g .records; book = g .book; held = tray-freed (m .tx) (m .to) (v .held) (g .held); air = mail-landed (v .air) p (g .air) })
 
   step-fits : {v v′ : Visible} {c : Call} {a : Told} → ((i : ℕ) → v .records i .phase ≢ Dropped → i < v .begun) → ((t j : ℕ) → v′ .clocks t j ≤ v′ .begun) → Call-ok ok c → In-range net ok v → Step net v v′ c a → In-range net ok v′
   step-fits op sm y g (fails f _ e) = subst (In-range net ok) (sym e) g
@@ -307,6 +374,7 @@ module _ (net : Net) (ok : Content → Bool) where
     clocks = λ t. zeros;
     records = λ i. record { origin = omega (arith, net .housed 0); bound = zeros; drafts = record { each = λ d h. absurd h; few = omega arith }; named = tt };
     book = λ k x h. absurd h;
+    held = λ x h. absurd h;
     air = λ m h. absurd h;
   }
   run-fits y (then {h = h} {v = v} {v′ = v′} r x) = step-fits (run-opened net h v r) (run-small net _ v′ (then r x)) (y .0) (run-fits (y .1) r) x

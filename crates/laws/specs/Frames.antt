@@ -10,6 +10,8 @@ use Rattle.clocks.specs.declared.Content.{Content}
 use Rattle.clocks.specs.declared.Version.{Version}
 use Rattle.messages.specs.declared.Draft.{Draft}
 use Rattle.messages.specs.declared.Objection.{Objection}
+use Rattle.messages.specs.declared.Conflict.{Conflict}
+use Rattle.messages.specs.declared.Conflict.the-variants.{Held as HeldBy, Newer, Full}
 use Rattle.tables.specs.declared.Reading.{Reading}
 use Rattle.tables.specs.declared.Held.{Held}
 use Rattle.tables.specs.declared.Call.{Call}
@@ -44,8 +46,13 @@ abbrev pub Fit-shown : Net → (Content → Bool) → Option Version → Type 0
 Fit-shown net ok (Some x) = Fit-version net ok x
 Fit-shown net ok None = Unit {0}
 
+abbrev pub Fit-conflict : Net → Conflict → Type 0
+Fit-conflict net (HeldBy o w) = (o < net .towers) × (w < net .transactions)
+Fit-conflict net (Newer o w n) = (o < net .towers) × (w < net .transactions) × (1 ≤ n) × (n ≤ net .transactions)
+Fit-conflict net Full = Unit {0}
+
 abbrev pub Fit-named : Net → Option Objection → Type 0
-Fit-named net (Some n) = n .key < net .keys
+Fit-named net (Some a) = (a .key < net .keys) × Fit-conflict net (a .conflict)
 Fit-named net None = Unit {0}
 
 abbrev pub Fit-body : Net → (Content → Bool) → Body → Type 0
@@ -70,12 +77,18 @@ pub record Fit-record (net : Net) (ok : Content → Bool) (r : Record) : Type 0 
   pub drafts : Fit-lines net ok (r .drafts)
   pub named : Fit-named net (r .named)
 
+pub record Fit-held (net : Net) (x : Held) : Type 0 where
+  pub key : x .key < net .keys
+  pub tx : x .tx < net .transactions
+  pub origin : x .origin < net .towers
+
 -- whatever the net holds is in range
 pub record In-range (net : Net) (ok : Content → Bool) (v : Visible) : Type 0 where
   pub begun : v .begun ≤ net .transactions
   pub clocks : (t : ℕ) → Fit-clock net (v .clocks t)
   pub records : (i : ℕ) → Fit-record net ok (v .records i)
   pub book : (k : ℕ) (x : Version) → In x (v .book k) → Fit-version net ok x
+  pub held : (x : Held) → In x (v .held) → Fit-held net x
   pub air : (m : Message) → In m (v .air) → Fit net ok m
 
 -- every content that was to be drafted passes a test
