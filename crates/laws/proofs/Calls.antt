@@ -68,8 +68,8 @@ drafts-keeps net s i ds v o = amend-open net s i (drafting ds (s .vis .records i
   unnamed = λ k t n. both-ways (shut (s .vis .records i .phase)) (ap shut o) t;
 })
 
-pub closes-empty-keeps : (net : Net) (s : State) (i : ℕ) → Invariant net s → s .vis .records i .phase ≡ Open → Invariant net (on s (amended (s .vis) i (voting Granted 0 None 0 (s .vis .records i))))
-closes-empty-keeps net s i v o = amend-open net s i (voting Granted 0 None 0 (s .vis .records i)) v o (record {
+pub closes-empty-keeps : (net : Net) (s : State) (i : ℕ) → Invariant net s → s .vis .records i .phase ≡ Open → Invariant net (on s (amended (s .vis) i (voting Granted 0 None (s .vis .records i))))
+closes-empty-keeps net s i v o = amend-open net s i (voting Granted 0 None (s .vis .records i)) v o (record {
   bound = refl;
   answered = refl;
   going = differ Granted Closing refl refl;
@@ -220,11 +220,11 @@ no-vote p q = let z : _≡_ {A = ℕ} 0 1 = cc in omega arith
 
 closes-votes : (net : Net) (s : State) (i : ℕ) → Invariant net s → s .vis .records i .phase ≡ Open →
     let ms = prepares net i (s .vis .records i) (net .towers) in
-    Votes net (put (s .vis .records) i (voting Closing (length ms) None 0 (s .vis .records i))) (s .vis .held) (s .vis .air ++ ms)
+    Votes net (put (s .vis .records) i (voting Closing (length ms) None (s .vis .records i))) (s .vis .held) (s .vis .air ++ ms)
 closes-votes net s i v o =
     let old = s .vis .records i in
     let ms = prepares net i old (net .towers) in
-    let r = voting Closing (length ms) None 0 old in
+    let r = voting Closing (length ms) None old in
     let rs = put (s .vis .records) i r in
     let at : rs i ≡ r = put-same (s .vis .records) i r i refl in
     let g = v .votes in
@@ -270,7 +270,7 @@ pub closes-keeps : (net : Net) (s : State) (i : ℕ) → Invariant net s → s .
 closes-keeps net s i v o =
     let old = s .vis .records i in
     let ms = prepares net i old (net .towers) in
-    let r = voting Closing (length ms) None 0 old in
+    let r = voting Closing (length ms) None old in
     let rs = put (s .vis .records) i r in
     let same = same-put (s .vis .records) i r (inl (ap shut o)) in
     record {

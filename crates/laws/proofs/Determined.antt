@@ -41,7 +41,7 @@ module _ (net : Net) (v : Visible) where
   of-read i k None = result (Sent 1) (asked net v i k)
 
   abbrev of-close : ℕ → List Draft → Result
-  of-close i [] = result ReadOnly (amended v i (voting Granted 0 None 0 (v .records i)))
+  of-close i [] = result ReadOnly (amended v i (voting Granted 0 None (v .records i)))
   of-close i (d ∷ ds) = result (Sent (length (prepares net i (v .records i) (net .towers)))) (closed net v i)
 
   abbrev of-prepare : ℕ → Message → List Draft → Option Objection → Result

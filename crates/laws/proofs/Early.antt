@@ -16,7 +16,7 @@ use Rattle.laws.specs.Lists.{put, In, either}
 use Rattle.laws.specs.Net.{Record, Placement, Net, _⊑_, Seen, is-ballot}
 use Rattle.laws.proofs.Model.{Logged, State, after-step, next, noting, on, placing, start, then}
 use Rattle.laws.specs.Rules.{Rule, Step, agrees, asks, begins, closes, closes-empty, counts, drafts, drops, fails, grants, hears, lets-go, looks, obeys, objects, refuses, replies, takes-in}
-use Rattle.laws.specs.State.{placement, Visible}
+use Rattle.laws.specs.State.{granted-record, placement, Visible}
 use Rattle.laws.specs.Words.{opened, in-phase, drafting, reading-at, voting, redrafted, placed-as, prepares, Event}
 use Rattle.laws.specs.History.{Note, note, is-begun, is-shown, is-placed, is-other, is-fault, placed-by, begun-by, placedIn, begunIn, Next-told, Counted, before-by, placedBeforeIn, originIn}
 use Rattle.laws.proofs.Lists.{put-case, put-same, put-other, in-at}
@@ -87,17 +87,17 @@ early-rule net {s} {c = call} {a = told} h v g l x (looks i k d o q e) = subst (
 early-rule net {s} {c = call} {a = told} h v g l x (asks i k o _ n e) = subst (λ (w : Visible). Early-in (after call told h) (on s w)) (sym e) (early-put h (s .vis .begun) (s .placed) (s .vis .records) i (in-phase Waiting (s .vis .records i)) (same (s .vis .records) i) x)
 early-rule net {s} {c = call} {a = told} h v g l x (drafts i k w o _ _ e) = subst (λ (w : Visible). Early-in (after call told h) (on s w)) (sym e) (early-put h (s .vis .begun) (s .placed) (s .vis .records) i (drafting (redrafted k w (s .vis .records i .drafts)) (s .vis .records i)) (same (s .vis .records) i) x)
 early-rule net {s} {c = call} {a = told} h v g l x (drops i o e) = subst (λ (w : Visible). Early-in (after call told h) (on s w)) (sym e) (early-put h (s .vis .begun) (s .placed) (s .vis .records) i (in-phase Dropped (s .vis .records i)) (same (s .vis .records) i) x)
-early-rule net {s} {c = call} {a = told} h v g l x (closes-empty i o n e) = subst (λ (w : Visible). Early-in (after call told h) (on s w)) (sym e) (early-put h (s .vis .begun) (s .placed) (s .vis .records) i (voting Granted 0 None 0 (s .vis .records i)) (same (s .vis .records) i) x)
-early-rule net {s} {c = call} {a = told} h v g l x (closes i o n e) = subst (λ (w : Visible). Early-in (after call told h) (on s w)) (sym e) (early-put h (s .vis .begun) (s .placed) (s .vis .records) i (voting Closing (length (prepares net i (s .vis .records i) (net .towers))) None 0 (s .vis .records i)) (same (s .vis .records) i) x)
+early-rule net {s} {c = call} {a = told} h v g l x (closes-empty i o n e) = subst (λ (w : Visible). Early-in (after call told h) (on s w)) (sym e) (early-put h (s .vis .begun) (s .placed) (s .vis .records) i (voting Granted 0 None (s .vis .records i)) (same (s .vis .records) i) x)
+early-rule net {s} {c = call} {a = told} h v g l x (closes i o n e) = subst (λ (w : Visible). Early-in (after call told h) (on s w)) (sym e) (early-put h (s .vis .begun) (s .placed) (s .vis .records) i (voting Closing (length (prepares net i (s .vis .records i) (net .towers))) None (s .vis .records i)) (same (s .vis .records) i) x)
 early-rule net {s} {c = call} {a = told} h v g l x (replies p m k first r b e) = subst (λ (w : Visible). Early-in (after call told h) (on s w)) (sym e) x
 early-rule net {s} {c = call} {a = told} h v g l x (hears p m k shown a b e) = subst (λ (w : Visible). Early-in (after call told h) (noting s (record { tx = m .tx; key = k; shown = shown }) w)) (sym e) (early-put h (s .vis .begun) (s .placed) (s .vis .records) (m .tx) (reading-at (m .bound) (s .vis .records (m .tx))) (g .growing m k shown (in-at (s .vis .air) p m a) b) x)
 early-rule net {s} {c = call} {a = told} h v g l x (agrees p m lines r b n e) = subst (λ (w : Visible). Early-in (after call told h) (on s w)) (sym e) x
 early-rule net {s} {c = call} {a = told} h v g l x (objects p m lines k r b y e) = subst (λ (w : Visible). Early-in (after call told h) (on s w)) (sym e) x
 early-rule net {s} {c = call} {a = told} h v g l x (counts p m named r b q e) = subst (λ (w : Visible). Early-in (after call told h) (on s w)) (sym e)
-    (early-put h (s .vis .begun) (s .placed) (s .vis .records) (m .tx) (voting Closing (pred (s .vis .records (m .tx) .awaited)) (either (s .vis .records (m .tx) .named) named) 0 (s .vis .records (m .tx))) (same (s .vis .records) (m .tx)) x)
+    (early-put h (s .vis .begun) (s .placed) (s .vis .records) (m .tx) (voting Closing (pred (s .vis .records (m .tx) .awaited)) (either (s .vis .records (m .tx) .named) named) (s .vis .records (m .tx))) (same (s .vis .records) (m .tx)) x)
 early-rule net {s} {c = call} {a = told} h v g l x (grants p m named r b one q e) = subst (λ (w : Visible). Early-in (after call told h) (placing s (placement (s .vis) (m .tx)) w)) (sym e) (
     let o = s .vis .records (m .tx) .origin in
-    let w = voting Granted 0 None (suc (s .vis .clocks o o)) (s .vis .records (m .tx)) in
+    let w = granted-record (s .vis) (m .tx) in
     let y = early-put h (s .vis .begun) (s .placed) (s .vis .records) (m .tx) w (same (s .vis .records) (m .tx)) x in
     let T = placed-as (m .tx) w in
     let c = v .votes .sound m (in-at (s .vis .air) p m (r .there)) (ap is-ballot b) .closing in
@@ -106,7 +106,7 @@ early-rule net {s} {c = call} {a = told} h v g l x (grants p m named r b one q e
     placed-other (s .placed) (s .vis .records) (f .0) (m .tx) (v .granteds) (f .1) (differ Closing Granted refl c) (f .2 ∙ ap (λ (F : Placement). F .tx) d) in
     λ z E lt k i. elim k [ inl d ↦ absurd (not-yet z E d i) | inr k ↦ y z E lt k i ])
 early-rule net {s} {c = call} {a = told} h v g l x (refuses p m named k r b one q e) = subst (λ (w : Visible). Early-in (after call told h) (on s w)) (sym e)
-    (early-put h (s .vis .begun) (s .placed) (s .vis .records) (m .tx) (voting Refused 0 (Some k) 0 (s .vis .records (m .tx))) (same (s .vis .records) (m .tx)) x)
+    (early-put h (s .vis .begun) (s .placed) (s .vis .records) (m .tx) (voting Refused 0 (Some k) (s .vis .records (m .tx))) (same (s .vis .records) (m .tx)) x)
 early-rule net {s} {c = call} {a = told} h v g l x (takes-in p m n lines r b q e) = subst (λ (w : Visible). Early-in (after call told h) (on s w)) (sym e) x
 early-rule net {s} {c = call} {a = told} h v g l x (lets-go p m a b e) = subst (λ (w : Visible). Early-in (after call told h) (on s w)) (sym e) x
 

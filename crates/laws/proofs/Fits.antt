@@ -24,7 +24,7 @@ use Rattle.tables.specs.declared.Held.{Held}
 use Rattle.laws.specs.Lists.{put, In, At, without, those, either, first-of}
 use Rattle.laws.specs.Net.{Clock, Record, Body, query, answer, prepare, vote, granted, Message, Placement, Net, Drafted, written, inside, newest-within, newest}
 use Rattle.laws.specs.Words.{opened, in-phase, drafting, reading-at, voting, placed-as, letter, redrafted, unless-none, homed, prepare-to, granted-to, refused-to, prepares, grants-to, refusals-to, Event, holds-of, freed, another-holds, held-conflict, newer-conflict, conflict-at}
-use Rattle.laws.specs.State.{Visible}
+use Rattle.laws.specs.State.{granted-record, Visible}
 use Rattle.laws.specs.Rules.{Rule, Step, Run, start, then, fails, obeys, begins, looks, asks, drafts, drops, closes-empty, closes, replies, hears, agrees, objects, counts, grants, refuses, takes-in, lets-go}
 use Rattle.laws.specs.Frames.{Fit-clock, Fit-version, Fit-lines, Fit-shown, Fit-named, Fit-body, Fit, Fit-record, Fit-held, Fit-conflict, In-range, Call-ok, Calls-ok, Numbers-in-range}
 use Rattle.laws.specs.Further.{Always}
@@ -245,7 +245,7 @@ module _ (net : Net) (ok : Content → Bool) where
       record {
         begun = g .begun;
         clocks = g .clocks;
-        records = records-put (v .records) i (voting Granted 0 None 0 (v .records i)) (g .records) (record { origin = r .origin; bound = r .bound; drafts = r .drafts; named = tt });
+        records = records-put (v .records) i (voting Granted 0 None (v .records i)) (g .records) (record { origin = r .origin; bound = r .bound; drafts = r .drafts; named = tt });
         book = g .book;
         held = g .held;
         air = g .air;
@@ -257,7 +257,7 @@ module _ (net : Net) (ok : Content → Bool) where
       record {
         begun = g .begun;
         clocks = g .clocks;
-        records = records-put (v .records) i (voting Closing (length ms) None 0 (v .records i)) (g .records) (record { origin = r .origin; bound = r .bound; drafts = r .drafts; named = tt });
+        records = records-put (v .records) i (voting Closing (length ms) None (v .records i)) (g .records) (record { origin = r .origin; bound = r .bound; drafts = r .drafts; named = tt });
         book = g .book;
         held = g .held;
         air = mail-sent (v .air) ms (g .air) (mail-prepares i (v .records i) (net .towers) b r (omega arith));
@@ -313,7 +313,7 @@ module _ (net : Net) (ok : Content → Bool) where
       record {
         begun = g .begun;
         clocks = g .clocks;
-        records = records-put (v .records) (m .tx) (voting Closing (pred (v .records (m .tx) .awaited)) (either (v .records (m .tx) .named) named) 0 (v .records (m .tx))) (g .records)
+        records = records-put (v .records) (m .tx) (voting Closing (pred (v .records (m .tx) .awaited)) (either (v .records (m .tx) .named) named) (v .records (m .tx))) (g .records)
             (record { origin = x .origin; bound = x .bound; drafts = x .drafts; named = either-fit (v .records (m .tx) .named) named (x .named) (subst (Fit-body net ok) b (h .body)) });
         book = g .book;
         held = g .held;
@@ -325,7 +325,7 @@ module _ (net : Net) (ok : Content → Bool) where
       let x = g .records i in
       let o = v .records i .origin in
       let n = suc (v .clocks o o) in
-      let w = voting Granted 0 None n (v .records i) in
+      let w = granted-record v i in
       let small : put (v .clocks) o (put (v .clocks o) o n) o o ≤ v .begun = subst (λ (z : Visible). (t j : ℕ) → z .clocks t j ≤ z .begun) e sm o o in
       let small′ : n ≤ v .begun = rw (put-same (v .clocks) o (put (v .clocks o) o n) o refl, put-same (v .clocks o) o n o refl) at small in
       let top : n ≤ net .transactions = omega (arith, small′, g .begun) in
@@ -341,7 +341,7 @@ module _ (net : Net) (ok : Content → Bool) where
       let h = g .air m (in-at (v .air) p m (r .there)) in
       let x = g .records (m .tx) in
       let f : Fit-named net (Some k) = subst (Fit-named net) q (either-fit (v .records (m .tx) .named) named (x .named) (subst (Fit-body net ok) b (h .body))) in
-      let w = voting Refused 0 (Some k) 0 (v .records (m .tx)) in
+      let w = voting Refused 0 (Some k) (v .records (m .tx)) in
       let fw : Fit-record net ok w = record { origin = x .origin; bound = x .bound; drafts = x .drafts; named = f } in
       record {
         begun = g .begun;

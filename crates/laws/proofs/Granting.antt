@@ -15,7 +15,7 @@ use Rattle.tables.specs.declared.Held.{Held}
 use Rattle.tables.specs.declared.Phase.the-variants.{Waiting, Closing, Granted, Refused, Dropped}
 use Rattle.messages.specs.declared.Objection.{Objection}
 use Rattle.laws.proofs.Conflicts.{none-some, either-none}
-use Rattle.laws.specs.State.{placement}
+use Rattle.laws.specs.State.{granted-record, placement}
 use Rattle.laws.specs.Lists.{put, In, At, without, either}
 use Rattle.laws.specs.Net.{Clock, Record, vote, granted, refused, Message, Placement, Net, _⊑_, Drafted, taken, count, Seen, seen, shut}
 use Rattle.laws.proofs.Model.{Answered, State, on, placing}
@@ -243,7 +243,7 @@ grants-keeps net s p m named v ripe e one q =
     let i = m .tx in
     let old = s .vis .records i in
     let o = old .origin in
-    let r = voting Granted 0 None (suc (cs o o)) old in
+    let r = granted-record (s .vis) i in
     let T = placed-as i r in
     let rs = put (s .vis .records) i r in
     let rest = without (s .vis .air) p in

@@ -17,7 +17,7 @@ use Rattle.laws.specs.Lists.{put, either}
 use Rattle.laws.specs.Net.{Record, Placement, Net, content-of, writer-of}
 use Rattle.laws.proofs.Model.{Answered, Logged, State, after-step, next, noting, on, placing, start, then}
 use Rattle.laws.specs.Rules.{Rule, Step, agrees, asks, begins, closes, closes-empty, counts, drafts, drops, fails, grants, hears, lets-go, looks, obeys, objects, refuses, replies, takes-in}
-use Rattle.laws.specs.State.{placement, Visible}
+use Rattle.laws.specs.State.{granted-record, placement, Visible}
 use Rattle.laws.specs.Words.{opened, in-phase, drafting, reading-at, voting, redrafted, prepares, Event}
 use Rattle.laws.specs.History.{placedIn, Counted, originIn, begunIn, draftsIn, Heard, readsIn}
 use Rattle.laws.proofs.Lists.{put-keeps, put-case}
@@ -111,9 +111,9 @@ linked-rule net {s} {c = call} {a = told} h v l (drafts i k w o _ _ e) = subst (
   counted = (tt, l .counted);
 })
 linked-rule net {s} {c = call} {a = told} h v l (drops i o e) = subst (λ (w : Visible). Linked (after call told h) (on s w)) (sym e) (record { begun = l .begun; origins = o-put h s i (in-phase Dropped (s .vis .records i)) l refl; drafts = d-put h s i (in-phase Dropped (s .vis .records i)) l refl; placed = l .placed; reads = l .reads; last = l .last; entries = l .entries; counted = (tt, l .counted) })
-linked-rule net {s} {c = call} {a = told} h v l (closes-empty i o n e) = subst (λ (w : Visible). Linked (after call told h) (on s w)) (sym e) (record { begun = l .begun; origins = o-put h s i (voting Granted 0 None 0 (s .vis .records i)) l refl; drafts = d-put h s i (voting Granted 0 None 0 (s .vis .records i)) l refl; placed = l .placed; reads = l .reads; last = l .last; entries = l .entries; counted = (tt, l .counted) })
+linked-rule net {s} {c = call} {a = told} h v l (closes-empty i o n e) = subst (λ (w : Visible). Linked (after call told h) (on s w)) (sym e) (record { begun = l .begun; origins = o-put h s i (voting Granted 0 None (s .vis .records i)) l refl; drafts = d-put h s i (voting Granted 0 None (s .vis .records i)) l refl; placed = l .placed; reads = l .reads; last = l .last; entries = l .entries; counted = (tt, l .counted) })
 linked-rule net {s} {c = call} {a = told} h v l (closes i o n e) = subst (λ (w : Visible). Linked (after call told h) (on s w)) (sym e) (
-    let r = voting Closing (length (prepares net i (s .vis .records i) (net .towers))) None 0 (s .vis .records i) in
+    let r = voting Closing (length (prepares net i (s .vis .records i) (net .towers))) None (s .vis .records i) in
     record { begun = l .begun; origins = o-put h s i r l refl; drafts = d-put h s i r l refl; placed = l .placed; reads = l .reads; last = l .last; entries = l .entries; counted = (tt, l .counted) })
 linked-rule net {s} {c = call} {a = told} h v l (replies p m k first r b e) = subst (λ (w : Visible). Linked (after call told h) (on s w)) (sym e) (record { begun = l .begun; origins = l .origins; drafts = l .drafts; placed = l .placed; reads = l .reads; last = l .last; entries = l .entries; counted = (tt, l .counted) })
 linked-rule net {s} {c = call} {a = told} h v l (hears p m k shown a b e) = subst (λ (w : Visible). Linked (after call told h) (noting s (record { tx = m .tx; key = k; shown = shown }) w)) (sym e) (
@@ -131,11 +131,11 @@ linked-rule net {s} {c = call} {a = told} h v l (hears p m k shown a b e) = subs
 linked-rule net {s} {c = call} {a = told} h v l (agrees p m lines r b n e) = subst (λ (w : Visible). Linked (after call told h) (on s w)) (sym e) (record { begun = l .begun; origins = l .origins; drafts = l .drafts; placed = l .placed; reads = l .reads; last = l .last; entries = l .entries; counted = (tt, l .counted) })
 linked-rule net {s} {c = call} {a = told} h v l (objects p m lines k r b y e) = subst (λ (w : Visible). Linked (after call told h) (on s w)) (sym e) (record { begun = l .begun; origins = l .origins; drafts = l .drafts; placed = l .placed; reads = l .reads; last = l .last; entries = l .entries; counted = (tt, l .counted) })
 linked-rule net {s} {c = call} {a = told} h v l (counts p m named r b q e) = subst (λ (w : Visible). Linked (after call told h) (on s w)) (sym e) (
-    let r = voting Closing _ (either (s .vis .records (m .tx) .named) named) 0 (s .vis .records (m .tx)) in
+    let r = voting Closing _ (either (s .vis .records (m .tx) .named) named) (s .vis .records (m .tx)) in
     record { begun = l .begun; origins = o-put h s (m .tx) r l refl; drafts = d-put h s (m .tx) r l refl; placed = l .placed; reads = l .reads; last = l .last; entries = l .entries; counted = (tt, l .counted) })
 linked-rule net {s} {c = call} {a = told} h v l (grants p m named r b one q e) = subst (λ (w : Visible). Linked (after call told h) (placing s (placement (s .vis) (m .tx)) w)) (sym e) (
     let o = s .vis .records (m .tx) .origin in
-    let r = voting Granted 0 None (suc (s .vis .clocks o o)) (s .vis .records (m .tx)) in
+    let r = granted-record (s .vis) (m .tx) in
     record {
       begun = l .begun;
       origins = o-put h s (m .tx) r l refl;
@@ -147,7 +147,7 @@ linked-rule net {s} {c = call} {a = told} h v l (grants p m named r b one q e) =
       counted = (ap suc (l .last ∙ sym (length-txs (s .placed)) ∙ ap length (l .placed)), l .counted);
     })
 linked-rule net {s} {c = call} {a = told} h v l (refuses p m named k r b one q e) = subst (λ (w : Visible). Linked (after call told h) (on s w)) (sym e) (
-    let r = voting Refused 0 (Some k) 0 (s .vis .records (m .tx)) in
+    let r = voting Refused 0 (Some k) (s .vis .records (m .tx)) in
     record { begun = l .begun; origins = o-put h s (m .tx) r l refl; drafts = d-put h s (m .tx) r l refl; placed = l .placed; reads = l .reads; last = l .last; entries = l .entries; counted = (tt, l .counted) })
 linked-rule net {s} {c = call} {a = told} h v l (takes-in p m n lines r b q e) = subst (λ (w : Visible). Linked (after call told h) (on s w)) (sym e) (record { begun = l .begun; origins = l .origins; drafts = l .drafts; placed = l .placed; reads = l .reads; last = l .last; entries = l .entries; counted = (tt, l .counted) })
 linked-rule net {s} {c = call} {a = told} h v l (lets-go p m a b e) = subst (λ (w : Visible). Linked (after call told h) (on s w)) (sym e) (record { begun = l .begun; origins = l .origins; drafts = l .drafts; placed = l .placed; reads = l .reads; last = l .last; entries = l .entries; counted = (tt, l .counted) })

@@ -20,7 +20,7 @@ use Rattle.laws.specs.Net.{Clock, Record, Body, query, answer, prepare, vote, 
 use Rattle.laws.specs.Words.{opened, in-phase, drafting, reading-at, voting, placed-as, letter, redrafted, unless-none, holds-of, homed, freed, prepares, prepare-to, grants-to, refusals-to, Event}
 use Rattle.laws.specs.History.{numberIn}
 use Rattle.laws.specs.Rules.{Run, Rule, agrees, asks, begins, closes, closes-empty, counts, drafts, drops, grants, hears, lets-go, looks, objects, refuses, replies, takes-in}
-use Rattle.laws.specs.State.{placement, Visible}
+use Rattle.laws.specs.State.{granted-record, placement, Visible}
 use Rattle.laws.specs.Further.{Always, Held-once, Records-agree}
 use Rattle.laws.proofs.Model.{Logged, State, by-step, log-of, next, noting, on, placing, start, then}
 use Rattle.laws.proofs.Lists.{put-case, in-at, in-append, in-without, tally-append, tally-at, tally-none, none-left}
@@ -209,12 +209,12 @@ rule-kept net {s} v r g (asks i k o _ n e) = subst (λ (w : Visible). Kept net (
     })
 rule-kept net {s} v r g (drafts i k w o _ _ e) = subst (λ (w : Visible). Kept net (on s w)) (sym e) (record { once = g .once; lone = g .lone; unheld = g .unheld; won = won-put (s .placed) (s .vis .records) i (drafting (redrafted k w (s .vis .records i .drafts)) (s .vis .records i)) (g .won) (λ x. absurd (differ Open Granted refl o x)) })
 rule-kept net {s} v r g (drops i o e) = subst (λ (w : Visible). Kept net (on s w)) (sym e) (record { once = g .once; lone = g .lone; unheld = g .unheld; won = won-put (s .placed) (s .vis .records) i (in-phase Dropped (s .vis .records i)) (g .won) (λ x. absurd (differ Dropped Granted refl refl x)) })
-rule-kept net {s} v r g (closes-empty i o n e) = subst (λ (w : Visible). Kept net (on s w)) (sym e) (record { once = g .once; lone = g .lone; unheld = g .unheld; won = won-put (s .placed) (s .vis .records) i (voting Granted 0 None 0 (s .vis .records i)) (g .won) (λ _. inl n) })
+rule-kept net {s} v r g (closes-empty i o n e) = subst (λ (w : Visible). Kept net (on s w)) (sym e) (record { once = g .once; lone = g .lone; unheld = g .unheld; won = won-put (s .placed) (s .vis .records) i (voting Granted 0 None (s .vis .records i)) (g .won) (λ _. inl n) })
 rule-kept net {s} v r g (closes i o n e) = subst (λ (w : Visible). Kept net (on s w)) (sym e) (record {
   once = g .once;
   lone = closes-lone net s i v g o;
   unheld = closes-unheld net s i v g o;
-  won = won-put (s .placed) (s .vis .records) i (voting Closing (length (prepares net i (s .vis .records i) (net .towers))) None 0 (s .vis .records i)) (g .won) (λ x. absurd (differ Closing Granted refl refl x));
+  won = won-put (s .placed) (s .vis .records) i (voting Closing (length (prepares net i (s .vis .records i) (net .towers))) None (s .vis .records i)) (g .won) (λ x. absurd (differ Closing Granted refl refl x));
 })
 rule-kept net {s} v r g (replies p m k first a b e) = subst (λ (w : Visible). Kept net (on s w)) (sym e) (
     let c : Clock = cond first (s .vis .clocks (m .to)) (m .bound) in
@@ -251,12 +251,12 @@ rule-kept net {s} v r g (counts p m named a b l e) = subst (λ (w : Visible). Ke
   once = g .once;
   lone = lone-landed (s .vis .air) p m (a .there) (g .lone);
   unheld = unheld-landed net (s .vis .held) (s .vis .air) p (g .unheld);
-  won = won-put (s .placed) (s .vis .records) (m .tx) (voting Closing (pred (s .vis .records (m .tx) .awaited)) (either (s .vis .records (m .tx) .named) named) 0 (s .vis .records (m .tx))) (g .won) (λ x. absurd (differ Closing Granted refl refl x));
+  won = won-put (s .placed) (s .vis .records) (m .tx) (voting Closing (pred (s .vis .records (m .tx) .awaited)) (either (s .vis .records (m .tx) .named) named) (s .vis .records (m .tx))) (g .won) (λ x. absurd (differ Closing Granted refl refl x));
 })
 rule-kept net {s} v r g (grants p m named a b l q e) = subst (λ (w : Visible). Kept net (placing s (placement (s .vis) (m .tx)) w)) (sym e) (
     let i = m .tx in
     let o = s .vis .records i .origin in
-    let w = voting Granted 0 None (suc (s .vis .clocks o o)) (s .vis .records i) in
+    let w = granted-record (s .vis) i in
     let T = placed-as i w in
     let ms = grants-to net T (net .towers) in
     let each = each-grant net T (net .towers) (λ x. is-prepare (x .body) ≡ false) (λ t. refl) in
@@ -268,7 +268,7 @@ rule-kept net {s} v r g (grants p m named a b l q e) = subst (λ (w : Visible). 
     })
 rule-kept net {s} v r g (refuses p m named k a b l q e) = subst (λ (w : Visible). Kept net (on s w)) (sym e) (
     let i = m .tx in
-    let w = voting Refused 0 (Some k) 0 (s .vis .records i) in
+    let w = voting Refused 0 (Some k) (s .vis .records i) in
     let ms = refusals-to net i w (net .towers) in
     let each = each-refusal net i w (net .towers) (λ x. is-prepare (x .body) ≡ false) (λ t. refl) in
     record {

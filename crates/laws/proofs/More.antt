@@ -23,7 +23,7 @@ use Rattle.laws.specs.Lists.{put, In, At, without, tally, those, either}
 use Rattle.laws.specs.Net.{Clock, Record, query, answer, prepare, vote, granted, refused, Message, Placement, Net, _⊑_, Drafted, written, Seen, newest-within, is-ballot, is-granted}
 use Rattle.laws.proofs.Model.{Logged, State, by-step, next, noting, on, placing, start, then}
 use Rattle.laws.specs.Rules.{Ripe, Rule, agrees, asks, begins, begun-at, closed, closes, closes-empty, counts, drafts, drops, grants, hears, lets-go, looks, objects, refuses, replies, takes-in}
-use Rattle.laws.specs.State.{placement, Visible, amended}
+use Rattle.laws.specs.State.{granted-record, placement, Visible, amended}
 use Rattle.laws.specs.Words.{opened, in-phase, drafting, reading-at, voting, placed-as, letter, redrafted, homed, prepares, prepare-to, granted-to, grants-to, refusals-to, Event}
 use Rattle.laws.proofs.Lists.{put-other, put-all, put-keeps, in-at, in-append, in-without, none-left}
 use Rattle.laws.proofs.Placed.{drafted?, written-none}
@@ -205,7 +205,7 @@ closes-more : (net : Net) (s : State) (i : ℕ) → s .vis .records i .drafts �
     More net (on s (closed net (s .vis) i))
 closes-more net s i n g =
     let ms = prepares net i (s .vis .records i) (net .towers) in
-    let r = voting Closing (length ms) None 0 (s .vis .records i) in
+    let r = voting Closing (length ms) None (s .vis .records i) in
     let each = each-prepare net i (s .vis .records i) (net .towers) in
     record {
       ready = ready-put (s .vis .records) i r (g .ready) (λ _. some-prepare net i (s .vis .records i) (s .vis .records i .drafts) refl n);
@@ -217,7 +217,7 @@ closes-more net s i n g =
 
 grants-more : (net : Net) (s : State) (p : ℕ) (m : Message) (named : Option Objection) → Invariant net s → More net s → Ripe net (s .vis) p m → m .body ≡ vote named → s .vis .records (m .tx) .awaited ≡ 1 → either (s .vis .records (m .tx) .named) named ≡ None →
     (let o = s .vis .records (m .tx) .origin in
-     let r = voting Granted 0 None (suc (s .vis .clocks o o)) (s .vis .records (m .tx)) in
+     let r = granted-record (s .vis) (m .tx) in
      let T = placed-as (m .tx) r in
      (Ready (put (s .vis .records) (m .tx) r) × Tidy (put (s .vis .records) (m .tx) r) × Roomy net (added net (s .vis .book) o T) × Growing (put (s .vis .records) (m .tx) r) (without (s .vis .air) p ++ grants-to net T (net .towers)) ×
        Owed net (T ∷ s .placed) (passed (s .vis .clocks) o T) (without (s .vis .air) p ++ grants-to net T (net .towers))))
@@ -226,7 +226,7 @@ grants-more net s p m named v g ripe e one q =
     let i = m .tx in
     let old = s .vis .records i in
     let o = old .origin in
-    let r = voting Granted 0 None (suc (s .vis .clocks o o)) old in
+    let r = granted-record (s .vis) i in
     let T = placed-as i r in
     let b = v .votes .sound m (in-at (s .vis .air) p m a) (ap is-ballot e) in
     let ms = grants-to net T (net .towers) in
@@ -297,7 +297,7 @@ rule-more net {s} v g (asks i k o _ n e) = subst (λ (w : Visible). More net (on
     })
 rule-more net {s} v g (drafts i k w o _ _ e) = subst (λ (w : Visible). More net (on s w)) (sym e) (amend-more net s i (drafting (redrafted k w (s .vis .records i .drafts)) (s .vis .records i)) g (λ c. absurd (differ Open Closing refl o c)) (λ j. redraft-tidy k w j (s .vis .records i .drafts) (g .tidy i)) refl)
 rule-more net {s} v g (drops i o e) = subst (λ (w : Visible). More net (on s w)) (sym e) (amend-more net s i (in-phase Dropped (s .vis .records i)) g (λ c. absurd (differ Dropped Closing refl refl c)) (g .tidy i) refl)
-rule-more net {s} v g (closes-empty i o n e) = subst (λ (w : Visible). More net (on s w)) (sym e) (amend-more net s i (voting Granted 0 None 0 (s .vis .records i)) g (λ c. absurd (differ Granted Closing refl refl c)) (g .tidy i) refl)
+rule-more net {s} v g (closes-empty i o n e) = subst (λ (w : Visible). More net (on s w)) (sym e) (amend-more net s i (voting Granted 0 None (s .vis .records i)) g (λ c. absurd (differ Granted Closing refl refl c)) (g .tidy i) refl)
 rule-more net {s} v g (closes i o n e) = subst (λ (w : Visible). More net (on s w)) (sym e) (closes-more net s i n g)
 rule-more net {s} v g (replies p m k first r b e) = subst (λ (w : Visible). More net (on s w)) (sym e) (
     let c : Clock = cond first (s .vis .clocks (m .to)) (m .bound) in
@@ -338,7 +338,7 @@ rule-more net {s} v g (objects p m lines k r b y e) = subst (λ (w : Visible). M
     })
 rule-more net {s} v g (counts p m named r b l e) = subst (λ (w : Visible). More net (on s w)) (sym e) (
     let i = m .tx in
-    let x = voting Closing (pred (s .vis .records i .awaited)) (either (s .vis .records i .named) named) 0 (s .vis .records i) in
+    let x = voting Closing (pred (s .vis .records i .awaited)) (either (s .vis .records i .named) named) (s .vis .records i) in
     record {
       ready = ready-put (s .vis .records) i x (g .ready) (λ _. less (s .vis .records i .awaited) l);
       tidy = tidy-put (s .vis .records) i x (g .tidy) (g .tidy i);
@@ -349,7 +349,7 @@ rule-more net {s} v g (counts p m named r b l e) = subst (λ (w : Visible). More
 rule-more net {s} v g (grants p m named r b l q e) = subst (λ (w : Visible). More net (placing s (placement (s .vis) (m .tx)) w)) (sym e) (let x = grants-more net s p m named v g r b l q in record { ready = x .0; tidy = x .1; roomy = x .2; growing = x .3; owed = x .4 })
 rule-more net {s} v g (refuses p m named k r b l q e) = subst (λ (w : Visible). More net (on s w)) (sym e) (
     let i = m .tx in
-    let x = voting Refused 0 (Some k) 0 (s .vis .records i) in
+    let x = voting Refused 0 (Some k) (s .vis .records i) in
     let ms = refusals-to net i x (net .towers) in
     let each = each-refusal net i x (net .towers) in
     record {

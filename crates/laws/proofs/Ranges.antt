@@ -87,9 +87,9 @@ rule-ranges net {s} g (asks i k o _ n e) = subst (λ (w : Visible). Ranges net (
 })
 rule-ranges net {s} g (drafts i k w o _ _ e) = subst (λ (w : Visible). Ranges net (on s w)) (sym e) (record { origins = origins-put net (s .vis .records) i (drafting (redrafted k w (s .vis .records i .drafts)) (s .vis .records i)) (g .origins) (g .origins i); mail = g .mail })
 rule-ranges net {s} g (drops i o e) = subst (λ (w : Visible). Ranges net (on s w)) (sym e) (record { origins = origins-put net (s .vis .records) i (in-phase Dropped (s .vis .records i)) (g .origins) (g .origins i); mail = g .mail })
-rule-ranges net {s} g (closes-empty i o n e) = subst (λ (w : Visible). Ranges net (on s w)) (sym e) (record { origins = origins-put net (s .vis .records) i (voting Granted 0 None 0 (s .vis .records i)) (g .origins) (g .origins i); mail = g .mail })
+rule-ranges net {s} g (closes-empty i o n e) = subst (λ (w : Visible). Ranges net (on s w)) (sym e) (record { origins = origins-put net (s .vis .records) i (voting Granted 0 None (s .vis .records i)) (g .origins) (g .origins i); mail = g .mail })
 rule-ranges net {s} g (closes i o n e) = subst (λ (w : Visible). Ranges net (on s w)) (sym e) (record {
-  origins = origins-put net (s .vis .records) i (voting Closing (length (prepares net i (s .vis .records i) (net .towers))) None 0 (s .vis .records i)) (g .origins) (g .origins i);
+  origins = origins-put net (s .vis .records) i (voting Closing (length (prepares net i (s .vis .records i) (net .towers))) None (s .vis .records i)) (g .origins) (g .origins i);
   mail = mail-sent net (s .vis .air) _ (g .mail) (mail-prepares net i (s .vis .records i) (net .towers) (g .origins i) (omega arith));
 })
 rule-ranges net {s} g (replies p m k first r b e) = subst (λ (w : Visible). Ranges net (on s w)) (sym e) (record { origins = g .origins; mail = answered-by net s p m _ g (in-at (s .vis .air) p m (r .there)) refl refl })
@@ -109,7 +109,7 @@ rule-ranges net {s} g (grants p m named r b l q e) = subst (λ (w : Visible). Ra
 })
 rule-ranges net {s} g (refuses p m named k r b l q e) = subst (λ (w : Visible). Ranges net (on s w)) (sym e) (record {
   origins = origins-put net (s .vis .records) (m .tx) _ (g .origins) (g .origins (m .tx));
-  mail = mail-sent net (without (s .vis .air) p) _ (mail-landed net (s .vis .air) p (g .mail)) (mail-refusals net (m .tx) (voting Refused 0 (Some k) 0 (s .vis .records (m .tx))) (net .towers) (g .origins (m .tx)) (omega arith));
+  mail = mail-sent net (without (s .vis .air) p) _ (mail-landed net (s .vis .air) p (g .mail)) (mail-refusals net (m .tx) (voting Refused 0 (Some k) (s .vis .records (m .tx))) (net .towers) (g .origins (m .tx)) (omega arith));
 })
 rule-ranges net {s} g (takes-in p m n lines r b l e) = subst (λ (w : Visible). Ranges net (on s w)) (sym e) (record { origins = g .origins; mail = mail-landed net (s .vis .air) p (g .mail) })
 rule-ranges net {s} g (lets-go p m a b e) = subst (λ (w : Visible). Ranges net (on s w)) (sym e) (record { origins = g .origins; mail = mail-landed net (s .vis .air) p (g .mail) })

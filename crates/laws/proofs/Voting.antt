@@ -273,11 +273,11 @@ named-cause net s m named k v h e c q = elim (either-cases (s .vis .records (m .
 ]
 
 counts-votes : (net : Net) (rs : ℕ → Record) (held : List Held) (air : List Message) (p : ℕ) (m : Message) (named : Option Objection) → At air p m → m .body ≡ vote named → Votes net rs held air →
-    Votes net (put rs (m .tx) (voting Closing (pred (rs (m .tx) .awaited)) (either (rs (m .tx) .named) named) 0 (rs (m .tx)))) held (without air p)
+    Votes net (put rs (m .tx) (voting Closing (pred (rs (m .tx) .awaited)) (either (rs (m .tx) .named) named) (rs (m .tx)))) held (without air p)
 counts-votes net rs held air p m named a e g =
     let i = m .tx in
     let old = rs i in
-    let r = voting Closing (pred (old .awaited)) (either (old .named) named) 0 old in
+    let r = voting Closing (pred (old .awaited)) (either (old .named) named) old in
     let rest = without air p in
     let h = in-at air p m a in
     let b = g .sound m h (ap is-ballot e) in
@@ -316,7 +316,7 @@ counts-keeps net s p m named v ripe e =
     let P = s .placed in
     let i = m .tx in
     let old = s .vis .records i in
-    let r = voting Closing (pred (old .awaited)) (either (old .named) named) 0 old in
+    let r = voting Closing (pred (old .awaited)) (either (old .named) named) old in
     let rs = put (s .vis .records) i r in
     let rest = without (s .vis .air) p in
     let c : old .phase ≡ Closing = v .votes .sound m h (ap is-ballot e) .closing in
@@ -399,7 +399,7 @@ refuses-keeps net s p m named k v ripe e one q =
     let P = s .placed in
     let i = m .tx in
     let old = s .vis .records i in
-    let r = voting Refused 0 (Some k) 0 old in
+    let r = voting Refused 0 (Some k) old in
     let rs = put (s .vis .records) i r in
     let rest = without (s .vis .air) p in
     let held′ = freed net i (r .origin) (s .vis .held) in

@@ -39,7 +39,7 @@ module _ (net : Net) where
   closed v i =
       let r = v .records i in
       let ms = prepares net i r (net .towers) in
-      sent (amended v i (voting Closing (length ms) None 0 r)) ms
+      sent (amended v i (voting Closing (length ms) None r)) ms
 
   -- the message m, at the place p of the air, is a query
   abbrev pub replied : Visible → ℕ → Message → ℕ → Bool → Visible
@@ -60,7 +60,7 @@ module _ (net : Net) where
   abbrev pub counted : Visible → ℕ → Message → Option Objection → Visible
   counted v p m named =
       let r = v .records (m .tx) in
-      amended (landed v p) (m .tx) (voting Closing (pred (r .awaited)) (either (r .named) named) 0 r)
+      amended (landed v p) (m .tx) (voting Closing (pred (r .awaited)) (either (r .named) named) r)
 
   -- .. the last vote, and none was a no
   abbrev pub granting : Visible → ℕ → Message → Visible
@@ -75,7 +75,7 @@ module _ (net : Net) where
   abbrev pub refusing : Visible → ℕ → Message → Objection → Visible
   refusing v p m against =
       let i = m .tx in
-      let r = voting Refused 0 (Some against) 0 (v .records i) in
+      let r = voting Refused 0 (Some against) (v .records i) in
       sent (holding (amended (landed v p) i r) (freed net i (r .origin) (v .held))) (refusals-to net i r (net .towers))
 
   -- .. a granted outcome
@@ -110,7 +110,7 @@ module _ (net : Net) where
     drops : (i : ℕ) → v .records i .phase ≡ Open →
         v′ ≡ amended v i (in-phase Dropped (v .records i)) → Rule v v′ (Abandon i) (ToldDropped i)
     closes-empty : (i : ℕ) → v .records i .phase ≡ Open → v .records i .drafts ≡ [] →
-        v′ ≡ amended v i (voting Granted 0 None 0 (v .records i)) → Rule v v′ (Close i) ReadOnly
+        v′ ≡ amended v i (voting Granted 0 None (v .records i)) → Rule v v′ (Close i) ReadOnly
     closes : (i : ℕ) → v .records i .phase ≡ Open → v .records i .drafts ≢ [] →
         v′ ≡ closed v i → Rule v v′ (Close i) (Sent (length (prepares net i (v .records i) (net .towers))))
     replies : (p : ℕ) (m : Message) (k : ℕ) (first : Bool) → Ripe v p m → m .body ≡ query k first →

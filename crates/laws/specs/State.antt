@@ -9,7 +9,7 @@ use Rattle.tables.specs.declared.Reading.{Reading}
 use Rattle.tables.specs.declared.Phase.the-variants.{Granted}
 use Rattle.laws.specs.Lists.{put, without}
 use Rattle.laws.specs.Net.{Clock, Record, Message, Placement, written}
-use Rattle.laws.specs.Words.{blank, voting, placed-as}
+use Rattle.laws.specs.Words.{blank, placed-as}
 
 pub record Visible : Type 0 where
   -- how many transactions were given, and the last place
@@ -51,11 +51,11 @@ placing v = record { begun = v .begun; last = suc (v .last); records = v .record
 abbrev pub new : Visible
 new = record { begun = 0; last = 0; records = λ _. blank; clocks = λ _ _. 0; book = λ _. []; held = []; air = []; readings = [] }
 
--- the transaction i, as the last vote grants it: with the number that its origin's clock expects next
+-- the transaction i, as the last vote grants it: with the number that its origin's clock expects next, and the next place
 abbrev pub granted-record : Visible → ℕ → Record
 granted-record v i =
-    let o = v .records i .origin in
-    voting Granted 0 None (suc (v .clocks o o)) (v .records i)
+    let r = v .records i in
+    record { origin = r .origin; phase = Granted; bound = r .bound; answered = r .answered; drafts = r .drafts; awaited = 0; named = None; number = suc (v .clocks (r .origin) (r .origin)); place = suc (v .last) }
 
 abbrev pub placement : Visible → ℕ → Placement
 placement v i = placed-as i (granted-record v i)

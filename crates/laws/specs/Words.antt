@@ -23,23 +23,23 @@ use Rattle.tables.specs.declared.Told.{Told}
 -- ## A record, changed at one place
 
 abbrev pub blank : Record
-blank = record { origin = 0; phase = Dropped; bound = λ _. 0; answered = false; drafts = []; awaited = 0; named = None; number = 0 }
+blank = record { origin = 0; phase = Dropped; bound = λ _. 0; answered = false; drafts = []; awaited = 0; named = None; number = 0; place = 0 }
 
 abbrev pub opened : ℕ → Clock → Record
-opened t c = record { origin = t; phase = Open; bound = c; answered = false; drafts = []; awaited = 0; named = None; number = 0 }
+opened t c = record { origin = t; phase = Open; bound = c; answered = false; drafts = []; awaited = 0; named = None; number = 0; place = 0 }
 
 abbrev pub in-phase : Phase → Record → Record
-in-phase p r = record { origin = r .origin; phase = p; bound = r .bound; answered = r .answered; drafts = r .drafts; awaited = r .awaited; named = r .named; number = r .number }
+in-phase p r = record { origin = r .origin; phase = p; bound = r .bound; answered = r .answered; drafts = r .drafts; awaited = r .awaited; named = r .named; number = r .number; place = r .place }
 
 abbrev pub drafting : List Draft → Record → Record
-drafting ds r = record { origin = r .origin; phase = r .phase; bound = r .bound; answered = r .answered; drafts = ds; awaited = r .awaited; named = r .named; number = r .number }
+drafting ds r = record { origin = r .origin; phase = r .phase; bound = r .bound; answered = r .answered; drafts = ds; awaited = r .awaited; named = r .named; number = r .number; place = r .place }
 
 abbrev pub reading-at : Clock → Record → Record
-reading-at c r = record { origin = r .origin; phase = Open; bound = c; answered = true; drafts = r .drafts; awaited = r .awaited; named = r .named; number = r .number }
+reading-at c r = record { origin = r .origin; phase = Open; bound = c; answered = true; drafts = r .drafts; awaited = r .awaited; named = r .named; number = r .number; place = r .place }
 
--- in this phase, with so many votes awaited, the vote against that is kept, and the number
-abbrev pub voting : Phase → ℕ → Option Objection → ℕ → Record → Record
-voting p a o n r = record { origin = r .origin; phase = p; bound = r .bound; answered = r .answered; drafts = r .drafts; awaited = a; named = o; number = n }
+-- in this phase, with so many votes awaited and the vote against that is kept
+abbrev pub voting : Phase → ℕ → Option Objection → Record → Record
+voting p a o r = record { origin = r .origin; phase = p; bound = r .bound; answered = r .answered; drafts = r .drafts; awaited = a; named = o; number = r .number; place = r .place }
 
 abbrev pub placed-as : ℕ → Record → Placement
 placed-as i r = record { tx = i; origin = r .origin; number = r .number; bound = r .bound; drafts = r .drafts }
