@@ -1,5 +1,5 @@
 -- A call tells one thing and does one thing. Assumes nothing.
-use mathlib.Core.Path.{_≡_, refl, sym, ap, _∙_}
+use mathlib.Core.Path.{_≡_, refl, sym, ap, subst, _∙_}
 use mathlib.Core.List.{List, [], _∷_, _++_}
 use mathlib.Core.Bool.{Bool, true, false}
 use mathlib.Core.Logic.{_≢_}
@@ -11,6 +11,7 @@ use Rattle.std.specs.declared.option.Option.{Option}
 use Rattle.std.specs.declared.option.Option.the-variants.{Some, None}
 use Rattle.std.specs.shelf.Maps.{nth}
 use Rattle.std.proofs.shelf.Tests.{eq-eqb, ne-eqb}
+use Rattle.faults.specs.declared.Cause.{Cause}
 use Rattle.messages.specs.declared.Draft.{Draft}
 use Rattle.messages.specs.declared.Objection.{Objection}
 use Rattle.messages.specs.Table.{conflictMark}
@@ -21,39 +22,41 @@ use Rattle.tables.specs.declared.Told.{Told}
 use Rattle.tables.specs.declared.Told.the-variants.{Begun, Own, Sent, Drafts, ReadOnly, Dropped as ToldDropped, Queried, Shown, Prepared, Awaiting, Placed, Refused as ToldRefused, Ended, Fault}
 use Rattle.laws.specs.Lists.{At, either}
 use Rattle.laws.specs.Net.{Body, query, answer, prepare, vote, granted, refused, Message, Net, content-of}
-use Rattle.laws.specs.Words.{draft-of, in-phase, drafting, voting, redrafted, holds-of, prepares}
+use Rattle.laws.specs.Words.{draft-of, in-phase, drafting, voting, redrafted, holds-of, prepares, Event}
 use Rattle.laws.specs.State.{Visible, amended, holding}
-use Rattle.laws.specs.Rules.{begun-at, asked, closed, replied, heard, voted, counted, granting, refusing, took, let-go, objection, Rule, Step, fails, obeys, begins, looks, asks, drafts, drops, closes-empty, closes, replies, hears, agrees, objects, counts, grants, refuses, takes-in, lets-go}
+use Rattle.laws.specs.Faults.{first-fault}
+use Rattle.laws.specs.Rules.{Run, begun-at, asked, closed, replied, heard, voted, counted, granting, refusing, took, let-go, objection, Rule, Step, fails, obeys, begins, looks, asks, drafts, drops, closes-empty, closes, replies, hears, agrees, objects, counts, grants, refuses, takes-in, lets-go}
 use Rattle.laws.specs.Further.{Same-answer, Answers-determined}
 use Rattle.laws.proofs.Conflicts.{none-some}
+use Rattle.laws.proofs.Answering.{obeyed}
 
-record Result : Type 0 where
-  told : Told
-  state : Visible
+pub record Result : Type 0 where
+  pub told : Told
+  pub state : Visible
 
-abbrev result : Told → Visible → Result
+abbrev pub result : Told → Visible → Result
 result a v = record { told = a; state = v }
 
 -- what a call tells and does, where no check turns it down
 module _ (net : Net) (v : Visible) where
-  abbrev of-read : ℕ → ℕ → Option Draft → Result
+  abbrev pub of-read : ℕ → ℕ → Option Draft → Result
   of-read i k (Some d) = result (Own (d .content)) v
   of-read i k None = result (Sent 1) (asked net v i k)
 
-  abbrev of-close : ℕ → List Draft → Result
+  abbrev pub of-close : ℕ → List Draft → Result
   of-close i [] = result ReadOnly (amended v i (voting Granted 0 None (v .records i)))
   of-close i (d ∷ ds) = result (Sent (length (prepares net i (v .records i) (net .towers)))) (closed net v i)
 
-  abbrev of-prepare : ℕ → Message → List Draft → Option Objection → Result
+  abbrev pub of-prepare : ℕ → Message → List Draft → Option Objection → Result
   of-prepare p m lines None = result (Prepared (m .tx) 0) (holding (voted net v p m None) (v .held ++ holds-of (m .tx) (m .from) lines))
   of-prepare p m lines (Some x) = result (Prepared (m .tx) (conflictMark (x .conflict))) (voted net v p m (Some x))
 
-  abbrev of-vote : ℕ → Message → Option Objection → Bool → Option Objection → Result
+  abbrev pub of-vote : ℕ → Message → Option Objection → Bool → Option Objection → Result
   of-vote p m named false o = result (Awaiting (m .tx)) (counted net v p m named)
   of-vote p m named true None = result (Placed (m .tx) (suc (v .last))) (granting net v p m)
   of-vote p m named true (Some x) = result (ToldRefused (m .tx) (x .key)) (refusing net v p m x)
 
-  abbrev of-body : ℕ → Message → Body → Result
+  abbrev pub of-body : ℕ → Message → Body → Result
   of-body p m (query k first) = result (Queried (m .tx)) (replied net v p m k first)
   of-body p m (answer k shown) = result (Shown (m .tx) k (content-of shown)) (heard net v p m k shown)
   of-body p m (prepare lines) = of-prepare p m lines (objection net v m lines)
@@ -61,11 +64,11 @@ module _ (net : Net) (v : Visible) where
   of-body p m (granted n lines) = result (Ended (m .tx) (m .to)) (took net v p m n lines)
   of-body p m refused = result (Ended (m .tx) (m .to)) (let-go net v p m)
 
-  abbrev of-message : ℕ → Option Message → Result
+  abbrev pub of-message : ℕ → Option Message → Result
   of-message p None = result ReadOnly v
   of-message p (Some m) = of-body p m (m .body)
 
-  abbrev of-call : Call → Result
+  abbrev pub of-call : Call → Result
   of-call (Begin t) = result (Begun (v .begun)) (begun-at net v t)
   of-call (Read i k) = of-read i k (draft-of k (v .records i .drafts))
   of-call (Write i k x) = result (Drafts (length (redrafted k x (v .records i .drafts)))) (amended v i (drafting (redrafted k x (v .records i .drafts)) (v .records i)))
@@ -120,3 +123,17 @@ module _ (net : Net) (v : Visible) where
 
 pub answers-determined : Answers-determined
 answers-determined net v v′ v″ c a b x y = determined net v x y
+
+-- in a net that a run has reached, a call tells and does what it should by its first fault
+abbrev pub answer-of : (net : Net) (v : Visible) (c : Call) → Option Cause → Result
+answer-of net v c (Some f) = result (Fault f) v
+answer-of net v c None = of-call net v c
+
+pub answered : (net : Net) (h : List Event) (v : Visible) → Run net h v → (c : Call) → let r = answer-of net v c (first-fault net v c) in Step net v (r .state) c (r .told)
+answered net h v run c = go (first-fault net v c) refl
+  where
+    go : (o : Option Cause) → first-fault net v c ≡ o → Step net v (answer-of net v c o .state) c (answer-of net v c o .told)
+    go (Some f) e = fails f e refl
+    go None e =
+        let r = obeyed net h v run c e in
+        subst (λ (x : Result). Step net v (x .state) c (x .told)) (rule-result net v (r .2)) (obeys e (r .2))
