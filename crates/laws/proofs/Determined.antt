@@ -30,6 +30,11 @@ use Rattle.laws.specs.Further.{Same-answer, Answers-determined}
 use Rattle.laws.proofs.Conflicts.{none-some}
 use Rattle.laws.proofs.Answering.{obeyed}
 
+pub at-nth : (xs : List Message) (p : ℕ) (m : Message) → At xs p m → nth xs p ≡ Some m
+at-nth [] p m a = absurd a
+at-nth (x ∷ xs) zero m a = ap Some (sym a)
+at-nth (x ∷ xs) (suc p) m a = at-nth xs p m a
+
 pub record Result : Type 0 where
   pub told : Told
   pub state : Visible
@@ -75,11 +80,6 @@ module _ (net : Net) (v : Visible) where
   of-call (Close i) = of-close i (v .records i .drafts)
   of-call (Abandon i) = result (ToldDropped i) (amended v i (in-phase Dropped (v .records i)))
   of-call (Deliver p) = of-message p (nth (v .air) p)
-
-  at-nth : (xs : List Message) (p : ℕ) (m : Message) → At xs p m → nth xs p ≡ Some m
-  at-nth [] p m a = absurd a
-  at-nth (x ∷ xs) zero m a = ap Some (sym a)
-  at-nth (x ∷ xs) (suc p) m a = at-nth xs p m a
 
   -- a message at p with this body
   body-is : (p : ℕ) (m : Message) (b : Body) → At (v .air) p m → m .body ≡ b → of-message p (nth (v .air) p) ≡ of-body p m b

@@ -349,7 +349,7 @@ module _ (net : Net) (ok : Content → Bool) where
         records = records-put (v .records) (m .tx) w (g .records) fw;
         book = g .book;
         held = tray-freed (m .tx) (v .records (m .tx) .origin) (v .held) (g .held);
-        air = mail-sent (without (v .air) p) _ (mail-landed (v .air) p (g .air)) (mail-refusals (m .tx) w (net .towers) (h .tx) fw (omega arith));
+        air = mail-sent (without (v .air) p) _ (mail-landed (v .air) p (g .air)) (mail-refusals (m .tx) (v .records (m .tx)) (net .towers) (h .tx) x (omega arith));
       })
   rule-fits {v} op sm y g (takes-in p m n lines r b l e) = subst (In-range net ok) (sym e) (
       let h = g .air m (in-at (v .air) p m (r .there)) in

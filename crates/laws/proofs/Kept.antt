@@ -14,17 +14,17 @@ use Rattle.tables.specs.declared.Held.{Held}
 use Rattle.tables.specs.declared.Call.{Call}
 use Rattle.tables.specs.declared.Told.{Told}
 use Rattle.tables.specs.declared.Phase.the-variants.{Open, Waiting, Closing, Granted, Refused, Dropped}
-use Rattle.laws.proofs.Conflicts.{Conflicts, taken-by, unopposed}
+use Rattle.laws.proofs.Conflicts.{Conflicts, taken-by, unopposed, none-some}
 use Rattle.laws.specs.Lists.{put, In, At, without, tally, either}
 use Rattle.laws.specs.Net.{Clock, Record, Body, query, answer, prepare, vote, granted, refused, Message, Placement, Net, Drafted, newest-within, shut, is-ballot}
 use Rattle.laws.specs.Words.{opened, in-phase, drafting, reading-at, voting, placed-as, letter, redrafted, unless-none, holds-of, homed, freed, prepares, prepare-to, grants-to, refusals-to, Event}
-use Rattle.laws.specs.History.{numberIn}
+use Rattle.laws.specs.History.{placedIn, number-of, numberIn, place-of, from-one}
 use Rattle.laws.specs.Rules.{Run, Rule, agrees, asks, begins, closes, closes-empty, counts, drafts, drops, grants, hears, lets-go, looks, objects, refuses, replies, takes-in}
 use Rattle.laws.specs.State.{granted-record, placement, Visible}
 use Rattle.laws.specs.Further.{Always, Held-once, Records-agree}
 use Rattle.laws.proofs.Model.{Logged, State, by-step, log-of, next, noting, on, placing, start, then}
 use Rattle.laws.proofs.Lists.{put-case, in-at, in-append, in-without, tally-append, tally-at, tally-none, none-left}
-use Rattle.laws.proofs.Placed.{drafted?}
+use Rattle.laws.proofs.Placed.{drafted?, number-pos}
 use Rattle.laws.proofs.Invariant.{Holds, Invariant}
 use Rattle.laws.proofs.Frames.{differ, only, no-intent, holds-freed}
 use Rattle.laws.proofs.Calls.{homed-drafted, each-prepare}
@@ -32,7 +32,8 @@ use Rattle.laws.proofs.Voting.{holds-cases, each-refusal}
 use Rattle.laws.proofs.Granting.{each-grant}
 use Rattle.laws.proofs.Stand.{run-holds, intent-drafted}
 use Rattle.laws.proofs.More.{drafts-of, More, run-more, those-fewer}
-use Rattle.laws.proofs.Histories.{txs, length-txs, run-linked}
+use Rattle.laws.proofs.Histories.{txs, length-txs, Linked, run-linked}
+use Rattle.laws.proofs.Places.{Places, run-places}
 use Rattle.laws.proofs.Lawful.{placed-at, numbered-as}
 use Rattle.laws.proofs.Further.{always}
 use Rattle.laws.proofs.Few.{total, total-length, total-few}
@@ -269,8 +270,8 @@ rule-kept net {s} v r g (grants p m named a b l q e) = subst (λ (w : Visible). 
 rule-kept net {s} v r g (refuses p m named k a b l q e) = subst (λ (w : Visible). Kept net (on s w)) (sym e) (
     let i = m .tx in
     let w = voting Refused 0 (Some k) (s .vis .records i) in
-    let ms = refusals-to net i w (net .towers) in
-    let each = each-refusal net i w (net .towers) (λ x. is-prepare (x .body) ≡ false) (λ t. refl) in
+    let ms = refusals-to net i (s .vis .records i) (net .towers) in
+    let each = each-refusal net i (s .vis .records i) (net .towers) (λ x. is-prepare (x .body) ≡ false) (λ t. refl) in
     record {
       once = once-freed net i (w .origin) (s .vis .held) (g .once);
       lone = lone-sent (without (s .vis .air) p) ms each (lone-landed (s .vis .air) p m (a .there) (g .lone));
@@ -331,6 +332,31 @@ held-once net h v r =
       enough = omega (arith, few, total-length (net .keys) (keys-of (s .vis .held)) below, keys-length (s .vis .held));
     })
 
+-- what is not placed has no number, and what is placed has its own
+place-in : (i n : ℕ) (is : List ℕ) → place-of i is ≡ Some n → In i is
+place-in i n [] e = absurd (none-some refl e)
+place-in i n (j ∷ is) e = elim (cases-eq j i) [ inl q ↦ inl (sym q) | inr q ↦ inr (place-in i n is (rw (ne-eqb j i q) at e)) ]
+
+number-none : (h : List Event) (i : ℕ) (is : List ℕ) → place-of i is ≡ None → number-of h i is ≡ None
+number-none h i [] e = refl
+number-none h i (j ∷ is) e = elim (cases-eq j i) [
+  | inl q ↦ absurd (none-some (rw (eq-eqb j i q) at e) refl)
+  | inr q ↦ rw (ne-eqb j i q) (number-none h i is (rw (ne-eqb j i q) at e))
+]
+
+counts-from-one : (n : ℕ) → 1 ≤ n → from-one n ≡ Some n
+counts-from-one zero l = absurd (omega (arith, l))
+counts-from-one (suc n) l = refl
+
+number-is : (net : Net) (h : List Event) (s : State) → Invariant net s → Linked h s → Places s → (i n : ℕ) → s .vis .records i .place ≡ n → numberIn h i ≡ from-one (s .vis .records i .number)
+number-is net h s v l g i zero e =
+    number-none h i (placedIn h) (ap (place-of i) (sym (l .placed)) ∙ g .place i ∙ ap from-one e) ∙ sym (ap from-one (g .number i e))
+number-is net h s v l g i (suc n) e =
+    let y = placed-at (s .placed) i (place-in i (suc n) (txs (s .placed)) (g .place i ∙ ap from-one e)) in
+    let E = y .0 in
+    let q : E .number ≡ s .vis .records i .number = ap (λ (F : Placement). F .number) (v .granteds E (y .1) .1) ∙ ap (λ (j : ℕ). s .vis .records j .number) (y .2) in
+    ap (numberIn h) (sym (y .2)) ∙ numbered-as net h s v l E (y .1) ∙ sym (counts-from-one (E .number) (number-pos (s .placed) E (v .order .numbered) (y .1))) ∙ ap from-one q
+
 agree : (net : Net) (h : List Event) (s : State) → Logged net h s → Records-agree net h (s .vis)
 agree net h s r =
     let v = run-holds net r in
@@ -340,10 +366,11 @@ agree net h s r =
       last = l .last ∙ sym (length-txs (s .placed)) ∙ ap length (l .placed);
       origin = l .origins;
       drafts = l .drafts;
+      number = λ i. number-is net h s v l (run-places net r) i (s .vis .records i .place) refl;
+      place = λ i. ap (place-of i) (sym (l .placed)) ∙ run-places net r .place i;
       placed = λ x q.
       let y = placed-at (s .placed) x (subst (In x) (sym (l .placed)) q) in
-      let n : y .0 .number ≡ s .vis .records (y .0 .tx) .number = ap (λ (E : Placement). E .number) (v .granteds (y .0) (y .1) .1) in
-      subst (λ (i : ℕ). (s .vis .records i .phase ≡ Granted) × (numberIn h i ≡ Some (s .vis .records i .number))) (y .2) (v .granteds (y .0) (y .1) .0, numbered-as net h s v l (y .0) (y .1) ∙ ap Some n);
+      subst (λ (i : ℕ). s .vis .records i .phase ≡ Granted) (y .2) (v .granteds (y .0) (y .1) .0);
       granted = λ i c. elim (run-kept net r .won i c) [ inl e ↦ inl (sym (l .drafts i) ∙ e) | inr q ↦ inr (subst (In i) (l .placed) q) ];
     }
 

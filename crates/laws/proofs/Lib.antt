@@ -14,6 +14,7 @@ pub mod Shown
 pub mod Stand
 pub mod Ranges
 pub mod Histories
+pub mod Places
 pub mod Lawful
 pub mod Owed
 pub mod More
@@ -26,5 +27,6 @@ pub mod Fits
 pub mod Carry
 pub mod Answering
 pub mod Determined
+pub mod Capacity
 pub mod Examples
 mod Pair

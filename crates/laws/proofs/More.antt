@@ -350,8 +350,8 @@ rule-more net {s} v g (grants p m named r b l q e) = subst (λ (w : Visible). Mo
 rule-more net {s} v g (refuses p m named k r b l q e) = subst (λ (w : Visible). More net (on s w)) (sym e) (
     let i = m .tx in
     let x = voting Refused 0 (Some k) (s .vis .records i) in
-    let ms = refusals-to net i x (net .towers) in
-    let each = each-refusal net i x (net .towers) in
+    let ms = refusals-to net i (s .vis .records i) (net .towers) in
+    let each = each-refusal net i (s .vis .records i) (net .towers) in
     record {
       ready = ready-put (s .vis .records) i x (g .ready) (λ c. absurd (differ Refused Closing refl refl c));
       tidy = tidy-put (s .vis .records) i x (g .tidy) (g .tidy i);

@@ -109,7 +109,7 @@ rule-ranges net {s} g (grants p m named r b l q e) = subst (λ (w : Visible). Ra
 })
 rule-ranges net {s} g (refuses p m named k r b l q e) = subst (λ (w : Visible). Ranges net (on s w)) (sym e) (record {
   origins = origins-put net (s .vis .records) (m .tx) _ (g .origins) (g .origins (m .tx));
-  mail = mail-sent net (without (s .vis .air) p) _ (mail-landed net (s .vis .air) p (g .mail)) (mail-refusals net (m .tx) (voting Refused 0 (Some k) (s .vis .records (m .tx))) (net .towers) (g .origins (m .tx)) (omega arith));
+  mail = mail-sent net (without (s .vis .air) p) _ (mail-landed net (s .vis .air) p (g .mail)) (mail-refusals net (m .tx) (s .vis .records (m .tx)) (net .towers) (g .origins (m .tx)) (omega arith));
 })
 rule-ranges net {s} g (takes-in p m n lines r b l e) = subst (λ (w : Visible). Ranges net (on s w)) (sym e) (record { origins = g .origins; mail = mail-landed net (s .vis .air) p (g .mail) })
 rule-ranges net {s} g (lets-go p m a b e) = subst (λ (w : Visible). Ranges net (on s w)) (sym e) (record { origins = g .origins; mail = mail-landed net (s .vis .air) p (g .mail) })

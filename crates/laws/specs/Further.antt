@@ -18,7 +18,7 @@ use Rattle.tables.specs.declared.Phase.the-variants.{Waiting, Closing, Granted,
 use Rattle.laws.specs.Lists.{In, At, tally, either}
 use Rattle.laws.specs.Net.{Body, query, answer, prepare, vote, granted, refused, Message, Net, _⊑_, Drafted, shut, ballots, is-ballot, owed-of}
 use Rattle.laws.specs.Words.{Event}
-use Rattle.laws.specs.History.{placedIn, begunIn, placedBeforeIn, originIn, draftsIn, numberIn, Within, Outside}
+use Rattle.laws.specs.History.{placedIn, begunIn, placedBeforeIn, originIn, draftsIn, numberIn, placeIn, from-one, Within, Outside}
 use Rattle.laws.specs.State.{Visible}
 use Rattle.laws.specs.Rules.{Step, Run}
 
@@ -99,6 +99,12 @@ pub record Same-answer (a b : Told) (v w : Visible) : Type 0 where
 abbrev pub Answers-determined : Type 0
 Answers-determined = (net : Net) (v v′ v″ : Visible) (c : Call) (a b : Told) → Step net v v′ c a → Step net v v″ c b → Same-answer a b v′ v″
 
+-- checks turn down what the tables have no place for
+pub record Within-capacity (net : Net) (h : List Event) (v : Visible) : Type 0 where
+  pub begun : v .begun ≤ net .transactions
+  pub air : length (v .air) ≤ net .air-places
+  pub readings : length (v .readings) ≤ net .reading-places
+
 -- a key is held once, so that a place for each key is enough
 pub record Held-once (net : Net) (h : List Event) (v : Visible) : Type 0 where
   pub once : (k : ℕ) → tally (λ x. eqb (x .key) k) (v .held) ≤ 1
@@ -110,7 +116,9 @@ pub record Records-agree (net : Net) (h : List Event) (v : Visible) : Type 0 whe
   pub last : v .last ≡ length (placedIn h)
   pub origin : (i : ℕ) → v .records i .origin ≡ originIn h i
   pub drafts : (i : ℕ) → v .records i .drafts ≡ draftsIn h i
-  pub placed : (x : ℕ) → In x (placedIn h) → (v .records x .phase ≡ Granted) × (numberIn h x ≡ Some (v .records x .number))
+  pub number : (i : ℕ) → numberIn h i ≡ from-one (v .records i .number)
+  pub place : (i : ℕ) → placeIn h i ≡ from-one (v .records i .place)
+  pub placed : (x : ℕ) → In x (placedIn h) → v .records x .phase ≡ Granted
   pub granted : (i : ℕ) → v .records i .phase ≡ Granted → (draftsIn h i ≡ []) ⊎ In i (placedIn h)
 
 -- ## Two transactions alone, in a net whose lists have room for one version

@@ -3,7 +3,7 @@ use mathlib.Core.Path.{_≡_}
 use mathlib.Core.List.{List, [], _∷_, _++_}
 use mathlib.Core.Bool.{Bool, true, false, cond}
 use mathlib.Core.Logic.{_⊎_}
-use Prim.Native.Nat.{ℕ, suc, _≤_, _<_}
+use Prim.Native.Nat.{ℕ, zero, suc, _≤_, _<_}
 use lib.Dec.{eqb}
 use lib.ListN.{length}
 use Rattle.std.specs.declared.option.Option.{Option}
@@ -156,6 +156,19 @@ number-of h i (j ∷ js) = cond (eqb j i) (Some (number-after h j js)) (number-o
 -- the number of a transaction; none, unless it is placed
 abbrev pub numberIn : List Event → ℕ → Option ℕ
 numberIn h i = number-of h i (placedIn h)
+
+-- the place of a transaction; none, unless it is placed
+abbrev pub place-of : ℕ → List ℕ → Option ℕ
+place-of i [] = None
+place-of i (j ∷ js) = cond (eqb j i) (Some (suc (length js))) (place-of i js)
+
+abbrev pub placeIn : List Event → ℕ → Option ℕ
+placeIn h i = place-of i (placedIn h)
+
+-- a count from 1, where 0 stands for none
+abbrev pub from-one : ℕ → Option ℕ
+from-one zero = None
+from-one (suc n) = Some (suc n)
 
 -- a transaction is within a bound, or outside it: it has no number, or one above the entry of its origin
 abbrev pub Within : List Event → ℕ → Clock → Type 0

@@ -76,7 +76,7 @@ module _ (net : Net) where
   refusing v p m against =
       let i = m .tx in
       let r = voting Refused 0 (Some against) (v .records i) in
-      sent (holding (amended (landed v p) i r) (freed net i (r .origin) (v .held))) (refusals-to net i r (net .towers))
+      sent (holding (amended (landed v p) i r) (freed net i (r .origin) (v .held))) (refusals-to net i (v .records i) (net .towers))
 
   -- .. a granted outcome
   abbrev pub took : Visible → ℕ → Message → ℕ → List Draft → Visible

@@ -3,7 +3,7 @@
 ghost use Rattle.laws.specs.Laws.{Laws-stand};
 ghost use Rattle.laws.specs.Examples.{Examples};
 ghost use Rattle.laws.specs.Frames.{Numbers-in-range, Frames-carry};
-ghost use Rattle.laws.specs.Further.{Always, Every-call-answered, Answers-determined, Held-once, Records-agree, Causally-closed, Accounted, Versions-within-clock, Closing-awaits, Finds-room, Own-tower-seen, Messages-at-home};
+ghost use Rattle.laws.specs.Further.{Always, Every-call-answered, Answers-determined, Held-once, Within-capacity, Records-agree, Causally-closed, Accounted, Versions-within-clock, Closing-awaits, Finds-room, Own-tower-seen, Messages-at-home};
 
 // The laws hold of every history, and of what the net then holds.
 pub fn laws_stand() -> u8
@@ -78,6 +78,13 @@ pub fn numbers_in_range() -> u8
 // Every frame in the air reads back as its message.
 pub fn frames_carry() -> u8
     ensures { λ _. ⌜ Frames-carry ⌝ }
+{
+    0
+}
+
+// Checks turn down what the tables have no place for.
+pub fn within_capacity() -> u8
+    ensures { λ _. ⌜ Always Within-capacity ⌝ }
 {
     0
 }
