@@ -18,14 +18,14 @@ use Rattle.messages.specs.declared.Objection.{Objection}
 use Rattle.tables.specs.declared.Phase.{Phase}
 use Rattle.tables.specs.declared.Phase.the-variants.{Open, Waiting, Closing, Granted, Refused, Dropped}
 use Rattle.tables.specs.declared.Call.{Call}
-use Rattle.tables.specs.declared.Call.the-variants.{Begin, Read, Draft as Write, Close, Drop as Abandon, Deliver}
+use Rattle.tables.specs.declared.Call.the-variants.{Begin, Read, Draft as DraftCall, Close, Drop as DropCall, Deliver}
 use Rattle.tables.specs.declared.Told.{Told}
 use Rattle.laws.specs.Lists.{At, either}
 use Rattle.laws.specs.Net.{Clock, Body, query, answer, prepare, vote, granted, refused, Message, Net, _⊑_}
 use Rattle.laws.specs.Words.{draft-of, redrafted, Event}
 use Rattle.laws.specs.State.{Visible}
 use Rattle.laws.specs.Faults.{unless, is-open, covers-first, ripe, unless-open, delivery-fault, message-fault, first-fault}
-use Rattle.laws.specs.Rules.{objection, Ripe, Rule, Step, fails, obeys, Run, begins, looks, asks, drafts, drops, closes-empty, closes, replies, hears, agrees, objects, counts, grants, refuses, takes-in, lets-go}
+use Rattle.laws.specs.Rules.{objection, Ripe, Rule, Step, fails, obeys, Run, begins, reads-own, asks, drafts, drops, closes-empty, closes, replies, receives, agrees, objects, counts, grants, refuses, takes-in, releases}
 use Rattle.laws.specs.Further.{Always, Every-call-answered}
 use Rattle.laws.proofs.Lists.{in-at}
 use Rattle.laws.proofs.Conflicts.{none-some}
@@ -82,7 +82,7 @@ module _ (net : Net) (h : List Event) (v : Visible) (run : Run net h v) where
       }
 
   reads : (i k : ℕ) → v .records i .phase ≡ Open → k < net .keys → (o : Option Draft) → draft-of k (v .records i .drafts) ≡ o → Ruled (Read i k)
-  reads i k o l (Some d) e = (_, _, looks i k d o e refl)
+  reads i k o l (Some d) e = (_, _, reads-own i k d o e refl)
   reads i k o l None e = (_, _, asks i k o l e refl)
 
   closings : (i : ℕ) → v .records i .phase ≡ Open → (ds : List Draft) → v .records i .drafts ≡ ds → Ruled (Close i)
@@ -107,8 +107,8 @@ module _ (net : Net) (h : List Event) (v : Visible) (run : Run net h v) where
       ]
 
   delivered : (p : ℕ) (m : Message) → At (v .air) p m → (b : Body) → m .body ≡ b → ripe (net .entries) (v .clocks (m .to)) m ≡ true → Ruled (Deliver p)
-  delivered p m a (answer k shown) e r = (_, _, hears p m k shown a e refl)
-  delivered p m a refused e r = (_, _, lets-go p m a e refl)
+  delivered p m a (answer k shown) e r = (_, _, receives p m k shown a e refl)
+  delivered p m a refused e r = (_, _, releases p m a e refl)
   delivered p m a (query k first) e r = (_, _, replies p m k first (covered p m a (rw e at r)) e refl)
   delivered p m a (prepare lines) e r = prepared p m lines e (covered p m a (rw e at r)) (objection net v m lines) refl
   delivered p m a (vote named) e r = voted p m named e (covered p m a (rw e at r))
@@ -128,12 +128,12 @@ module _ (net : Net) (h : List Event) (v : Visible) (run : Run net h v) where
   obeyed (Read i k) e =
       let a = passes-open net v i _ e in
       reads i k (a .0) (ltb-true _ _ (passes (ltb k (net .keys)) _ _ (a .1) .0)) (draft-of k (v .records i .drafts)) refl
-  obeyed (Write i k x) e =
+  obeyed (DraftCall i k x) e =
       let a = passes-open net v i _ e in
       let b = passes (ltb k (net .keys)) _ _ (a .1) in
       (_, _, drafts i k x (a .0) (ltb-true _ _ (b .0)) (leb-true _ _ (passes (leb (length (redrafted k x (v .records i .drafts))) (net .most)) _ _ (b .1) .0)) refl)
   obeyed (Close i) e = closings i (passes-open net v i _ e .0) (v .records i .drafts) refl
-  obeyed (Abandon i) e = (_, _, drops i (passes-open net v i _ e .0) refl)
+  obeyed (DropCall i) e = (_, _, drops i (passes-open net v i _ e .0) refl)
   obeyed (Deliver p) e = deliveries p (nth (v .air) p) refl e
 
 pub every-call-answered : Always Every-call-answered

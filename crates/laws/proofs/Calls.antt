@@ -16,11 +16,11 @@ use Rattle.tables.specs.declared.Phase.the-variants.{Open, Waiting, Closing, Gr
 use Rattle.messages.specs.declared.Objection.{Objection}
 use Rattle.laws.proofs.Conflicts.{none-some}
 use Rattle.laws.specs.Lists.{put, In, tally}
-use Rattle.laws.specs.Net.{Record, Body, query, answer, prepare, vote, refused, Message, Net, Drafted, shut}
+use Rattle.laws.specs.Net.{Record, Body, query, answer, prepare, vote, refused, Message, Net, Drafted, has-closed}
 use Rattle.laws.proofs.Model.{State, on}
 use Rattle.laws.specs.State.{amended}
 use Rattle.laws.specs.Rules.{asked, begun-at, closed}
-use Rattle.laws.specs.Words.{blank, opened, in-phase, drafting, voting, letter, unless-none, homed, prepare-to, prepares}
+use Rattle.laws.specs.Words.{blank, opened, in-phase, drafting, voting, message, unless-none, homed, prepare-to, prepares}
 use Rattle.laws.proofs.Lists.{put-same, put-other, put-case, in-left, in-right, in-append, tally-append, tally-none}
 use Rattle.laws.proofs.Invariant.{intents, is-read, is-ballot, is-granted, is-refused, polled, reads, ballots, Holds, Ballot, Votes, Justified, Invariant}
 use Rattle.laws.proofs.Frames.{same-put, holders-same, granteds-put, bounds-put, unbegun-put, votes-put, reads-put, refusals-put, votes-sent, reads-sent, outcomes-sent, refusals-sent, differ, only, reads-more}
@@ -31,11 +31,11 @@ pub record Amends (old new : Record) : Type 0 where
   pub answered : new .answered ≡ old .answered
   pub going : new .phase ≡ Closing → ⊥
   pub unrefused : new .phase ≡ Refused → ⊥
-  pub unnamed : (k : Objection) → shut (new .phase) ≡ true → new .named ≡ Some k → ⊥
+  pub unnamed : (k : Objection) → has-closed (new .phase) ≡ true → new .named ≡ Some k → ⊥
 
 pub amend-open : (net : Net) (s : State) (i : ℕ) (r : Record) → Invariant net s → s .vis .records i .phase ≡ Open → Amends (s .vis .records i) r → Invariant net (on s (amended (s .vis) i r))
 amend-open net s i r v o a =
-    let same = same-put (s .vis .records) i r (inl (ap shut o)) in
+    let same = same-put (s .vis .records) i r (inl (ap has-closed o)) in
     record {
       order = v .order;
       clocks = v .clocks;
@@ -65,7 +65,7 @@ drafts-keeps net s i ds v o = amend-open net s i (drafting ds (s .vis .records i
   answered = refl;
   going = differ Open Closing refl o;
   unrefused = differ Open Refused refl o;
-  unnamed = λ k t n. both-ways (shut (s .vis .records i .phase)) (ap shut o) t;
+  unnamed = λ k t n. both-ways (has-closed (s .vis .records i .phase)) (ap has-closed o) t;
 })
 
 pub closes-empty-keeps : (net : Net) (s : State) (i : ℕ) → Invariant net s → s .vis .records i .phase ≡ Open → Invariant net (on s (amended (s .vis) i (voting Granted 0 None (s .vis .records i))))
@@ -103,7 +103,7 @@ begins-keeps net s t v =
     let r = opened t (s .vis .clocks t) in
     let e : rs i ≡ blank = v .unbegun i (omega arith) in
     let o : rs i .phase ≡ Dropped = ap (λ (x : Record). x .phase) e in
-    let same = same-put rs i r (inl (ap shut o)) in
+    let same = same-put rs i r (inl (ap has-closed o)) in
     record {
       order = v .order;
       clocks = v .clocks;
@@ -132,7 +132,7 @@ asks-keeps net s i k v o =
       unrefused = differ Waiting Refused refl refl;
       unnamed = λ k t n. both-ways false refl t;
     }) in
-    let q = letter i (old .origin) (net .home k) (old .bound) (query k (not (old .answered))) in
+    let q = message i (old .origin) (net .home k) (old .bound) (query k (not (old .answered))) in
     let rs = put (s .vis .records) i r in
     let at : rs i ≡ r = put-same (s .vis .records) i r i refl in
     record {
@@ -272,7 +272,7 @@ closes-keeps net s i v o =
     let ms = prepares net i old (net .towers) in
     let r = voting Closing (length ms) None old in
     let rs = put (s .vis .records) i r in
-    let same = same-put (s .vis .records) i r (inl (ap shut o)) in
+    let same = same-put (s .vis .records) i r (inl (ap has-closed o)) in
     record {
       order = v .order;
       clocks = v .clocks;

@@ -22,7 +22,7 @@ use Rattle.laws.specs.Net.{Body, answer, vote, Message, Net, writer-of}
 use Rattle.laws.specs.Words.{draft-of, prepares, Event}
 use Rattle.laws.specs.State.{Visible}
 use Rattle.laws.specs.Faults.{ripe, room, unless-room, read-fault, close-fault, outcomes-of, delivery-fault, message-fault, first-fault}
-use Rattle.laws.specs.Rules.{Rule, Step, fails, obeys, Run, start, then, begins, looks, asks, drafts, drops, closes-empty, closes, replies, hears, agrees, objects, counts, grants, refuses, takes-in, lets-go}
+use Rattle.laws.specs.Rules.{Rule, Step, fails, obeys, Run, start, then, begins, reads-own, asks, drafts, drops, closes-empty, closes, replies, receives, agrees, objects, counts, grants, refuses, takes-in, releases}
 use Rattle.laws.specs.Further.{Always, Within-capacity}
 use Rattle.laws.proofs.Answering.{passes, passes-open}
 use Rattle.laws.proofs.Determined.{at-nth}
@@ -65,7 +65,7 @@ module _ (net : Net) (v : Visible) where
 
   rule-capacity : (h : List Event) {v′ : Visible} {c : Call} {a : Told} → first-fault net v c ≡ None → Within-capacity net h v → Rule net v v′ c a → Within-capacity net h v′
   rule-capacity h n g (begins t l b e) = subst (Within-capacity net h) (sym e) (record { begun = omega (arith, b); air = g .air; readings = g .readings })
-  rule-capacity h n g (looks i k d o q e) = subst (Within-capacity net h) (sym e) g
+  rule-capacity h n g (reads-own i k d o q e) = subst (Within-capacity net h) (sym e) g
   rule-capacity h n g (asks i k o l q e) = subst (Within-capacity net h) (sym e) (
       let a = passes (ltb k (net .keys)) _ _ (passes-open net v i _ n .1) .1 in
       record { begun = g .begun; air = more (v .air) _ (has-room 1 (v .air) (subst (λ (x : Option Draft). read-fault net v x ≡ None) q a)); readings = g .readings })
@@ -74,7 +74,7 @@ module _ (net : Net) (v : Visible) where
   rule-capacity h n g (closes-empty i o q e) = subst (Within-capacity net h) (sym e) (record { begun = g .begun; air = g .air; readings = g .readings })
   rule-capacity h n g (closes i o q e) = subst (Within-capacity net h) (sym e) (record { begun = g .begun; air = more (v .air) _ (closing i (v .records i .drafts) q (passes-open net v i _ n .1)); readings = g .readings })
   rule-capacity h n g (replies p m k first r b e) = subst (Within-capacity net h) (sym e) (record { begun = g .begun; air = swapped p m _ (r .there) (g .air); readings = g .readings })
-  rule-capacity h n g (hears p m k shown a b e) = subst (Within-capacity net h) (sym e) (
+  rule-capacity h n g (receives p m k shown a b e) = subst (Within-capacity net h) (sym e) (
       let f = ltb-true _ _ (passes (ltb (length (v .readings)) (net .reading-places)) _ _ (delivery p m (answer k shown) a b n) .0) in
       record { begun = g .begun; air = fewer p m a (g .air); readings = omega (arith, f, length-append (v .readings) (record { tx = m .tx; key = k; writer = writer-of shown } ∷ [])) })
   rule-capacity h n g (agrees p m lines r b q e) = subst (Within-capacity net h) (sym e) (record { begun = g .begun; air = swapped p m _ (r .there) (g .air); readings = g .readings })
@@ -83,7 +83,7 @@ module _ (net : Net) (v : Visible) where
   rule-capacity h n g (grants p m named r b l q e) = subst (Within-capacity net h) (sym e) (record { begun = g .begun; air = more (without (v .air) p) _ (decided p m named None (r .there) b l q n); readings = g .readings })
   rule-capacity h n g (refuses p m named x r b l q e) = subst (Within-capacity net h) (sym e) (record { begun = g .begun; air = more (without (v .air) p) _ (decided p m named (Some x) (r .there) b l q n); readings = g .readings })
   rule-capacity h n g (takes-in p m k lines r b l e) = subst (Within-capacity net h) (sym e) (record { begun = g .begun; air = fewer p m (r .there) (g .air); readings = g .readings })
-  rule-capacity h n g (lets-go p m a b e) = subst (Within-capacity net h) (sym e) (record { begun = g .begun; air = fewer p m a (g .air); readings = g .readings })
+  rule-capacity h n g (releases p m a b e) = subst (Within-capacity net h) (sym e) (record { begun = g .begun; air = fewer p m a (g .air); readings = g .readings })
 
 pub within-capacity : Always Within-capacity
 within-capacity net _ _ start = record { begun = omega arith; air = omega arith; readings = omega arith }

@@ -17,7 +17,7 @@ use Rattle.messages.specs.declared.Objection.{Objection}
 use Rattle.messages.specs.Table.{conflictMark}
 use Rattle.tables.specs.declared.Phase.the-variants.{Granted, Dropped}
 use Rattle.tables.specs.declared.Call.{Call}
-use Rattle.tables.specs.declared.Call.the-variants.{Begin, Read, Draft as Write, Close, Drop as Abandon, Deliver}
+use Rattle.tables.specs.declared.Call.the-variants.{Begin, Read, Draft as DraftCall, Close, Drop as DropCall, Deliver}
 use Rattle.tables.specs.declared.Told.{Told}
 use Rattle.tables.specs.declared.Told.the-variants.{Begun, Own, Sent, Drafts, ReadOnly, Dropped as ToldDropped, Queried, Shown, Prepared, Awaiting, Placed, Refused as ToldRefused, Ended, Fault}
 use Rattle.laws.specs.Lists.{At, either}
@@ -25,7 +25,7 @@ use Rattle.laws.specs.Net.{Body, query, answer, prepare, vote, granted, refuse
 use Rattle.laws.specs.Words.{draft-of, in-phase, drafting, voting, redrafted, holds-of, prepares, Event}
 use Rattle.laws.specs.State.{Visible, amended, holding}
 use Rattle.laws.specs.Faults.{first-fault}
-use Rattle.laws.specs.Rules.{Run, begun-at, asked, closed, replied, heard, voted, counted, granting, refusing, took, let-go, objection, Rule, Step, fails, obeys, begins, looks, asks, drafts, drops, closes-empty, closes, replies, hears, agrees, objects, counts, grants, refuses, takes-in, lets-go}
+use Rattle.laws.specs.Rules.{Run, begun-at, asked, closed, replied, received, voted, counted, granting, refusing, took, released, objection, Rule, Step, fails, obeys, begins, reads-own, asks, drafts, drops, closes-empty, closes, replies, receives, agrees, objects, counts, grants, refuses, takes-in, releases}
 use Rattle.laws.specs.Further.{Same-answer, Answers-determined}
 use Rattle.laws.proofs.Conflicts.{none-some}
 use Rattle.laws.proofs.Answering.{obeyed}
@@ -63,11 +63,11 @@ module _ (net : Net) (v : Visible) where
 
   abbrev pub of-body : ℕ → Message → Body → Result
   of-body p m (query k first) = result (Queried (m .tx)) (replied net v p m k first)
-  of-body p m (answer k shown) = result (Shown (m .tx) k (content-of shown)) (heard net v p m k shown)
+  of-body p m (answer k shown) = result (Shown (m .tx) k (content-of shown)) (received net v p m k shown)
   of-body p m (prepare lines) = of-prepare p m lines (objection net v m lines)
   of-body p m (vote named) = of-vote p m named (eqb (v .records (m .tx) .awaited) 1) (either (v .records (m .tx) .named) named)
   of-body p m (granted n lines) = result (Ended (m .tx) (m .to)) (took net v p m n lines)
-  of-body p m refused = result (Ended (m .tx) (m .to)) (let-go net v p m)
+  of-body p m refused = result (Ended (m .tx) (m .to)) (released net v p m)
 
   abbrev pub of-message : ℕ → Option Message → Result
   of-message p None = result ReadOnly v
@@ -76,9 +76,9 @@ module _ (net : Net) (v : Visible) where
   abbrev pub of-call : Call → Result
   of-call (Begin t) = result (Begun (v .begun)) (begun-at net v t)
   of-call (Read i k) = of-read i k (draft-of k (v .records i .drafts))
-  of-call (Write i k x) = result (Drafts (length (redrafted k x (v .records i .drafts)))) (amended v i (drafting (redrafted k x (v .records i .drafts)) (v .records i)))
+  of-call (DraftCall i k x) = result (Drafts (length (redrafted k x (v .records i .drafts)))) (amended v i (drafting (redrafted k x (v .records i .drafts)) (v .records i)))
   of-call (Close i) = of-close i (v .records i .drafts)
-  of-call (Abandon i) = result (ToldDropped i) (amended v i (in-phase Dropped (v .records i)))
+  of-call (DropCall i) = result (ToldDropped i) (amended v i (in-phase Dropped (v .records i)))
   of-call (Deliver p) = of-message p (nth (v .air) p)
 
   -- a message at p with this body
@@ -94,21 +94,21 @@ module _ (net : Net) (v : Visible) where
 
   rule-result : {v′ : Visible} {c : Call} {a : Told} → Rule net v v′ c a → result a v′ ≡ of-call c
   rule-result (begins t l n e) = ap (result _) e
-  rule-result (looks i k d o q e) = ap (result _) e ∙ sym (ap (of-read i k) q)
+  rule-result (reads-own i k d o q e) = ap (result _) e ∙ sym (ap (of-read i k) q)
   rule-result (asks i k o l q e) = ap (result _) e ∙ sym (ap (of-read i k) q)
   rule-result (drafts i k x o l n e) = ap (result _) e
   rule-result (drops i o e) = ap (result _) e
   rule-result (closes-empty i o n e) = ap (result _) e ∙ sym (ap (of-close i) n)
   rule-result (closes i o n e) = ap (result _) e ∙ sym (empty-close i (v .records i .drafts) n)
   rule-result (replies p m k first r b e) = ap (result _) e ∙ sym (body-is p m (query k first) (r .there) b)
-  rule-result (hears p m k shown x b e) = ap (result _) e ∙ sym (body-is p m (answer k shown) x b)
+  rule-result (receives p m k shown x b e) = ap (result _) e ∙ sym (body-is p m (answer k shown) x b)
   rule-result (agrees p m lines r b n e) = ap (result _) e ∙ sym (body-is p m (prepare lines) (r .there) b ∙ ap (of-prepare p m lines) n)
   rule-result (objects p m lines x r b n e) = ap (result _) e ∙ sym (body-is p m (prepare lines) (r .there) b ∙ ap (of-prepare p m lines) n)
   rule-result (counts p m named r b l e) = ap (result _) e ∙ sym (body-is p m (vote named) (r .there) b ∙ vote-is p m named _ false (ne-eqb _ _ (λ q. omega (arith, q, l))) refl)
   rule-result (grants p m named r b l q e) = ap (result _) e ∙ sym (body-is p m (vote named) (r .there) b ∙ vote-is p m named None true (eq-eqb _ _ l) q)
   rule-result (refuses p m named x r b l q e) = ap (result _) e ∙ sym (body-is p m (vote named) (r .there) b ∙ vote-is p m named (Some x) true (eq-eqb _ _ l) q)
   rule-result (takes-in p m n lines r b l e) = ap (result _) e ∙ sym (body-is p m (granted n lines) (r .there) b)
-  rule-result (lets-go p m x b e) = ap (result _) e ∙ sym (body-is p m refused x b)
+  rule-result (releases p m x b e) = ap (result _) e ∙ sym (body-is p m refused x b)
 
   same-result : {a b : Told} {w u : Visible} → result a w ≡ result b u → Same-answer a b w u
   same-result e = record { told = ap (λ (r : Result). r .told) e; state = ap (λ (r : Result). r .state) e }

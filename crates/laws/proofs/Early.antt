@@ -15,7 +15,7 @@ use Rattle.tables.specs.declared.Phase.the-variants.{Waiting, Closing, Granted,
 use Rattle.laws.specs.Lists.{put, In, either}
 use Rattle.laws.specs.Net.{Record, Placement, Net, _⊑_, Seen, is-ballot}
 use Rattle.laws.proofs.Model.{Logged, State, after-step, next, noting, on, placing, start, then}
-use Rattle.laws.specs.Rules.{Rule, Step, agrees, asks, begins, closes, closes-empty, counts, drafts, drops, fails, grants, hears, lets-go, looks, obeys, objects, refuses, replies, takes-in}
+use Rattle.laws.specs.Rules.{Rule, Step, agrees, asks, begins, closes, closes-empty, counts, drafts, drops, fails, grants, receives, releases, reads-own, obeys, objects, refuses, replies, takes-in}
 use Rattle.laws.specs.State.{granted-record, placement, Visible}
 use Rattle.laws.specs.Words.{opened, in-phase, drafting, reading-at, voting, redrafted, placed-as, prepares, Event}
 use Rattle.laws.specs.History.{Note, note, is-begun, is-shown, is-placed, is-other, is-fault, placed-by, begun-by, placedIn, begunIn, Next-told, Counted, before-by, placedBeforeIn, originIn}
@@ -83,14 +83,14 @@ early-rule net {s} {c = call} {a = told} h v g l x (begins t b _ e) = subst (λ 
         rw (put-same (s .vis .records) (s .vis .begun) (opened t (s .vis .clocks t)) y q) u′
     go y E lt m (inr n) i o =
         rw (put-other (s .vis .records) (s .vis .begun) (opened t (s .vis .clocks t)) y n) (x y E (omega (arith, lt, n)) m (rw (ne-eqb (s .vis .begun) y n) at i) (rw (ne-eqb (s .vis .begun) y n) at o))
-early-rule net {s} {c = call} {a = told} h v g l x (looks i k d o q e) = subst (λ (w : Visible). Early-in (after call told h) (on s w)) (sym e) x
+early-rule net {s} {c = call} {a = told} h v g l x (reads-own i k d o q e) = subst (λ (w : Visible). Early-in (after call told h) (on s w)) (sym e) x
 early-rule net {s} {c = call} {a = told} h v g l x (asks i k o _ n e) = subst (λ (w : Visible). Early-in (after call told h) (on s w)) (sym e) (early-put h (s .vis .begun) (s .placed) (s .vis .records) i (in-phase Waiting (s .vis .records i)) (same (s .vis .records) i) x)
 early-rule net {s} {c = call} {a = told} h v g l x (drafts i k w o _ _ e) = subst (λ (w : Visible). Early-in (after call told h) (on s w)) (sym e) (early-put h (s .vis .begun) (s .placed) (s .vis .records) i (drafting (redrafted k w (s .vis .records i .drafts)) (s .vis .records i)) (same (s .vis .records) i) x)
 early-rule net {s} {c = call} {a = told} h v g l x (drops i o e) = subst (λ (w : Visible). Early-in (after call told h) (on s w)) (sym e) (early-put h (s .vis .begun) (s .placed) (s .vis .records) i (in-phase Dropped (s .vis .records i)) (same (s .vis .records) i) x)
 early-rule net {s} {c = call} {a = told} h v g l x (closes-empty i o n e) = subst (λ (w : Visible). Early-in (after call told h) (on s w)) (sym e) (early-put h (s .vis .begun) (s .placed) (s .vis .records) i (voting Granted 0 None (s .vis .records i)) (same (s .vis .records) i) x)
 early-rule net {s} {c = call} {a = told} h v g l x (closes i o n e) = subst (λ (w : Visible). Early-in (after call told h) (on s w)) (sym e) (early-put h (s .vis .begun) (s .placed) (s .vis .records) i (voting Closing (length (prepares net i (s .vis .records i) (net .towers))) None (s .vis .records i)) (same (s .vis .records) i) x)
 early-rule net {s} {c = call} {a = told} h v g l x (replies p m k first r b e) = subst (λ (w : Visible). Early-in (after call told h) (on s w)) (sym e) x
-early-rule net {s} {c = call} {a = told} h v g l x (hears p m k shown a b e) = subst (λ (w : Visible). Early-in (after call told h) (noting s (record { tx = m .tx; key = k; shown = shown }) w)) (sym e) (early-put h (s .vis .begun) (s .placed) (s .vis .records) (m .tx) (reading-at (m .bound) (s .vis .records (m .tx))) (g .growing m k shown (in-at (s .vis .air) p m a) b) x)
+early-rule net {s} {c = call} {a = told} h v g l x (receives p m k shown a b e) = subst (λ (w : Visible). Early-in (after call told h) (noting s (record { tx = m .tx; key = k; shown = shown }) w)) (sym e) (early-put h (s .vis .begun) (s .placed) (s .vis .records) (m .tx) (reading-at (m .bound) (s .vis .records (m .tx))) (g .growing m k shown (in-at (s .vis .air) p m a) b) x)
 early-rule net {s} {c = call} {a = told} h v g l x (agrees p m lines r b n e) = subst (λ (w : Visible). Early-in (after call told h) (on s w)) (sym e) x
 early-rule net {s} {c = call} {a = told} h v g l x (objects p m lines k r b y e) = subst (λ (w : Visible). Early-in (after call told h) (on s w)) (sym e) x
 early-rule net {s} {c = call} {a = told} h v g l x (counts p m named r b q e) = subst (λ (w : Visible). Early-in (after call told h) (on s w)) (sym e)
@@ -108,7 +108,7 @@ early-rule net {s} {c = call} {a = told} h v g l x (grants p m named r b one q e
 early-rule net {s} {c = call} {a = told} h v g l x (refuses p m named k r b one q e) = subst (λ (w : Visible). Early-in (after call told h) (on s w)) (sym e)
     (early-put h (s .vis .begun) (s .placed) (s .vis .records) (m .tx) (voting Refused 0 (Some k) (s .vis .records (m .tx))) (same (s .vis .records) (m .tx)) x)
 early-rule net {s} {c = call} {a = told} h v g l x (takes-in p m n lines r b q e) = subst (λ (w : Visible). Early-in (after call told h) (on s w)) (sym e) x
-early-rule net {s} {c = call} {a = told} h v g l x (lets-go p m a b e) = subst (λ (w : Visible). Early-in (after call told h) (on s w)) (sym e) x
+early-rule net {s} {c = call} {a = told} h v g l x (releases p m a b e) = subst (λ (w : Visible). Early-in (after call told h) (on s w)) (sym e) x
 
 early-step : (net : Net) {s : State} {v′ : Visible} {c : Call} {a : Told} (h : List Event) → Invariant net s → More net s → Linked h s → Early-in h s → (x : Step net (s .vis) v′ c a) → Early-in (after c a h) (after-step net s x)
 early-step net {s} {c = call} {a = told} h v g l x (fails f _ e) = subst (λ (w : Visible). Early-in (after call told h) (on s w)) (sym e) x

@@ -12,7 +12,7 @@ use Rattle.messages.specs.declared.Draft.{Draft}
 use Rattle.tables.specs.declared.Phase.the-variants.{Granted, Refused}
 use Rattle.messages.specs.declared.Objection.{Objection}
 use Rattle.laws.specs.Lists.{In}
-use Rattle.laws.specs.Net.{Clock, Message, granted, Placement, Net, Drafted, versions, wrote, count, Seen, shut}
+use Rattle.laws.specs.Net.{Clock, Message, granted, Placement, Net, Drafted, versions, wrote, count, Seen, has-closed}
 use Rattle.laws.proofs.Model.{Answered, Logged, State}
 use Rattle.laws.specs.Words.{Event, placed-as}
 
@@ -44,7 +44,7 @@ Right P b k None = (E : Placement) → In E P → Drafted (E .drafts) k → Seen
 -- another that has asked to write the key, and that the transaction i had not seen
 pub record Unseen-rival (s : State) (i k j : ℕ) : Type 0 where
   pub other : j ≢ i
-  pub asked : shut (s .vis .records j .phase) ≡ true
+  pub asked : has-closed (s .vis .records j .phase) ≡ true
   pub drafted : Drafted (s .vis .records j .drafts) k
   pub outside : (E : Placement) → In E (s .placed) → E .tx ≡ j → Seen E (s .vis .records i .bound) → ⊥
 

@@ -12,7 +12,7 @@ use Rattle.std.specs.declared.option.Option.the-variants.{Some, None}
 use Rattle.clocks.specs.declared.Version.{Version}
 use Rattle.messages.specs.declared.Draft.{Draft}
 use Rattle.tables.specs.declared.Call.{Call}
-use Rattle.tables.specs.declared.Call.the-variants.{Begin, Read, Draft as Write, Close, Drop as Abandon, Deliver}
+use Rattle.tables.specs.declared.Call.the-variants.{Begin, Read, Draft as DraftCall, Close, Drop as DropCall, Deliver}
 use Rattle.tables.specs.declared.Told.{Told}
 use Rattle.tables.specs.declared.Phase.the-variants.{Open, Waiting, Closing, Granted, Refused, Dropped}
 use Rattle.messages.specs.declared.Objection.{Objection}
@@ -23,9 +23,9 @@ use Rattle.messages.specs.declared.Conflict.the-variants.{Held as HeldBy, Newer
 use Rattle.tables.specs.declared.Held.{Held}
 use Rattle.laws.specs.Lists.{put, In, At, without, those, either, first-of}
 use Rattle.laws.specs.Net.{Clock, Record, Body, query, answer, prepare, vote, granted, Message, Placement, Net, Drafted, written, inside, newest-within, newest}
-use Rattle.laws.specs.Words.{opened, in-phase, drafting, reading-at, voting, placed-as, letter, redrafted, unless-none, homed, prepare-to, granted-to, refused-to, prepares, grants-to, refusals-to, Event, holds-of, freed, another-holds, held-conflict, newer-conflict, conflict-at}
+use Rattle.laws.specs.Words.{opened, in-phase, drafting, reading-at, voting, placed-as, message, redrafted, unless-none, homed, prepare-to, granted-to, refused-to, prepares, grants-to, refusals-to, Event, holds-of, freed, another-holds, held-conflict, newer-conflict, conflict-at}
 use Rattle.laws.specs.State.{granted-record, Visible}
-use Rattle.laws.specs.Rules.{Rule, Step, Run, start, then, fails, obeys, begins, looks, asks, drafts, drops, closes-empty, closes, replies, hears, agrees, objects, counts, grants, refuses, takes-in, lets-go}
+use Rattle.laws.specs.Rules.{Rule, Step, Run, start, then, fails, obeys, begins, reads-own, asks, drafts, drops, closes-empty, closes, replies, receives, agrees, objects, counts, grants, refuses, takes-in, releases}
 use Rattle.laws.specs.Frames.{Fit-clock, Fit-version, Fit-lines, Fit-shown, Fit-named, Fit-body, Fit, Fit-record, Fit-held, Fit-conflict, In-range, Call-ok, Calls-ok, Numbers-in-range}
 use Rattle.laws.specs.Further.{Always}
 use Rattle.laws.proofs.Lists.{put-same, put-case, put-all, in-at, in-append, in-without, in-those}
@@ -189,10 +189,10 @@ module _ (net : Net) (ok : Content → Bool) where
       (mail-unless (eqb t (r .origin)) (unless-none (homed net t (r .drafts)) (refused-to net i r t)) (mail-maybe (homed net t (r .drafts)) (refused-to net i r t) (λ _. record { tx = o; from = g .origin; to = omega arith; bound = g .bound; body = tt })))
 
   -- a message that lands is answered by one that goes back
-  answered-by : (air : List Message) (p : ℕ) (m : Message) (c : Clock) (b : Body) → Mail air → At air p m → Fit-clock net c → Fit-body net ok b → Mail (without air p ++ letter (m .tx) (m .to) (m .from) c b ∷ [])
+  answered-by : (air : List Message) (p : ℕ) (m : Message) (c : Clock) (b : Body) → Mail air → At air p m → Fit-clock net c → Fit-body net ok b → Mail (without air p ++ message (m .tx) (m .to) (m .from) c b ∷ [])
   answered-by air p m c b g a f e =
       let h = g m (in-at air p m a) in
-      mail-sent (without air p) _ (mail-landed air p g) (only (Fit net ok) (letter (m .tx) (m .to) (m .from) c b) (record { tx = h .tx; from = h .to; to = h .from; bound = f; body = e }))
+      mail-sent (without air p) _ (mail-landed air p g) (only (Fit net ok) (message (m .tx) (m .to) (m .from) c b) (record { tx = h .tx; from = h .to; to = h .from; bound = f; body = e }))
 
   records-put : (rs : ℕ → Record) (i : ℕ) (r : Record) → ((i : ℕ) → Fit-record net ok (rs i)) → Fit-record net ok r → (j : ℕ) → Fit-record net ok (put rs i r j)
   records-put rs i r g f = put-all (Fit-record net ok) rs i r f g
@@ -208,7 +208,7 @@ module _ (net : Net) (ok : Content → Bool) where
     held = g .held;
     air = g .air;
   })
-  rule-fits op sm y g (looks i k d o h e) = subst (In-range net ok) (sym e) g
+  rule-fits op sm y g (reads-own i k d o h e) = subst (In-range net ok) (sym e) g
   rule-fits {v} op sm y g (asks i k o l n e) = subst (In-range net ok) (sym e) (
       let r = g .records i in
       let b : i < net .transactions = omega (arith, op i (differ Open Dropped refl o), g .begun) in
@@ -218,7 +218,7 @@ module _ (net : Net) (ok : Content → Bool) where
         records = records-put (v .records) i (in-phase Waiting (v .records i)) (g .records) (record { origin = r .origin; bound = r .bound; drafts = r .drafts; named = r .named });
         book = g .book;
         held = g .held;
-        air = mail-sent (v .air) _ (g .air) (only (Fit net ok) (letter i (v .records i .origin) (net .home k) (v .records i .bound) (query k (not (v .records i .answered)))) (record { tx = b; from = r .origin; to = net .housed k; bound = r .bound; body = l }));
+        air = mail-sent (v .air) _ (g .air) (only (Fit net ok) (message i (v .records i .origin) (net .home k) (v .records i .bound) (query k (not (v .records i .answered)))) (record { tx = b; from = r .origin; to = net .housed k; bound = r .bound; body = l }));
       })
   rule-fits {v} op sm y g (drafts i k x o a l e) = subst (In-range net ok) (sym e) (
       let r = g .records i in
@@ -274,7 +274,7 @@ module _ (net : Net) (ok : Content → Bool) where
         held = g .held;
         air = answered-by (v .air) p m c (answer k (newest-within c (v .book k))) (g .air) (r .there) (clock-choice first (v .clocks (m .to)) (m .bound) (g .clocks (m .to)) (h .bound)) (kb, shown-fit c (v .book k) (g .book k));
       })
-  rule-fits {v} op sm y g (hears p m k shown a b e) = subst (In-range net ok) (sym e) (
+  rule-fits {v} op sm y g (receives p m k shown a b e) = subst (In-range net ok) (sym e) (
       let h = g .air m (in-at (v .air) p m a) in
       let r = g .records (m .tx) in
       record {
@@ -362,7 +362,7 @@ module _ (net : Net) (ok : Content → Bool) where
         held = tray-freed (m .tx) (m .to) (v .held) (g .held);
         air = mail-landed (v .air) p (g .air);
       })
-  rule-fits {v} op sm y g (lets-go p m a b e) = subst (In-range net ok) (sym e) (record { begun = g .begun; clocks = g .clocks; records = g .records; book = g .book; held = tray-freed (m .tx) (m .to) (v .held) (g .held); air = mail-landed (v .air) p (g .air) })
+  rule-fits {v} op sm y g (releases p m a b e) = subst (In-range net ok) (sym e) (record { begun = g .begun; clocks = g .clocks; records = g .records; book = g .book; held = tray-freed (m .tx) (m .to) (v .held) (g .held); air = mail-landed (v .air) p (g .air) })
 
   step-fits : {v v′ : Visible} {c : Call} {a : Told} → ((i : ℕ) → v .records i .phase ≢ Dropped → i < v .begun) → ((t j : ℕ) → v′ .clocks t j ≤ v′ .begun) → Call-ok ok c → In-range net ok v → Step net v v′ c a → In-range net ok v′
   step-fits op sm y g (fails f _ e) = subst (In-range net ok) (sym e) g
@@ -390,9 +390,9 @@ all-ok (e ∷ h) = (go (e .call), all-ok h)
     go : (c : Call) → Call-ok (λ _. true) c
     go (Begin t) = tt
     go (Read i k) = tt
-    go (Write i k x) = refl
+    go (DraftCall i k x) = refl
     go (Close i) = tt
-    go (Abandon i) = tt
+    go (DropCall i) = tt
     go (Deliver p) = tt
 
 pub in-range : (net : Net) (h : List Event) (v : Visible) → Run net h v → In-range net (λ _. true) v

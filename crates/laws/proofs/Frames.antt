@@ -15,7 +15,7 @@ use Rattle.tables.specs.declared.Phase.{Phase}
 use Rattle.tables.specs.declared.Phase.the-variants.{Open, Waiting, Closing, Granted, Refused, Dropped}
 use Rattle.messages.specs.declared.Objection.{Objection}
 use Rattle.laws.specs.Lists.{put, In, At, without, tally}
-use Rattle.laws.specs.Net.{Clock, Record, query, answer, vote, refused, Message, Placement, Net, Drafted, versions, newest-within, shut}
+use Rattle.laws.specs.Net.{Clock, Record, query, answer, vote, refused, Message, Placement, Net, Drafted, versions, newest-within, has-closed}
 use Rattle.laws.proofs.Model.{Answered}
 use Rattle.laws.specs.Words.{placed-as, granted-to, freed}
 use Rattle.laws.proofs.Lists.{put-other, put-case, put-all, in-left, in-append, in-without, in-rest, in-those, those-in, tally-append, tally-at, tally-none}
@@ -42,10 +42,10 @@ abbrev pub Same : Intents → Intents → Type 0
 Same I J = (i k : ℕ) → Drafted (I i .drafts) k → J i ≡ I i
 
 -- a record that is not shut has no intent
-pub no-intent : (r : Record) (k : ℕ) → shut (r .phase) ≡ false → Drafted (intent r .drafts) k → ⊥
+pub no-intent : (r : Record) (k : ℕ) → has-closed (r .phase) ≡ false → Drafted (intent r .drafts) k → ⊥
 no-intent r k e d = rw e at d
 
-pub same-put : (rs : ℕ → Record) (i : ℕ) (r : Record) → (shut (rs i .phase) ≡ false) ⊎ (intent r ≡ intent (rs i)) → Same (intents rs) (intents (put rs i r))
+pub same-put : (rs : ℕ → Record) (i : ℕ) (r : Record) → (has-closed (rs i .phase) ≡ false) ⊎ (intent r ≡ intent (rs i)) → Same (intents rs) (intents (put rs i r))
 same-put rs i r (inl e) j k = put-case (λ j x. Drafted (intent (rs j) .drafts) k → intent x ≡ intent (rs j)) rs i r (λ d. absurd (no-intent (rs i) k e d)) (λ j _ _. refl) j
 same-put rs i r (inr e) j k = put-case (λ j x. Drafted (intent (rs j) .drafts) k → intent x ≡ intent (rs j)) rs i r (λ _. e) (λ j _ _. refl) j
 
@@ -78,8 +78,8 @@ justified-same net I J P book i k e g = record {
 -- ## A record that was not shut, amended
 
 -- a shut transaction is another
-pub not-that : (rs : ℕ → Record) (i j : ℕ) → shut (rs i .phase) ≡ false → shut (rs j .phase) ≡ true → i ≢ j
-not-that rs i j e f q = both-ways (shut (rs j .phase)) (sym (ap (λ (n : ℕ). shut (rs n .phase)) q) ∙ e) f
+pub not-that : (rs : ℕ → Record) (i j : ℕ) → has-closed (rs i .phase) ≡ false → has-closed (rs j .phase) ≡ true → i ≢ j
+not-that rs i j e f q = both-ways (has-closed (rs j .phase)) (sym (ap (λ (n : ℕ). has-closed (rs n .phase)) q) ∙ e) f
 
 pub granteds-put : (P : List Placement) (rs : ℕ → Record) (i : ℕ) (r : Record) → rs i .phase ≢ Granted → Granteds P rs → Granteds P (put rs i r)
 granteds-put P rs i r e g E h =
@@ -130,13 +130,13 @@ reads-put net P rs i r air ds e f g =
 
 pub refusals-put : (net : Net) (P : List Placement) (rs : ℕ → Record) (i : ℕ) (r : Record) (book : ℕ → List Version) (air : List Message) →
     Same (intents rs) (intents (put rs i r)) →
-    ((k : Objection) → shut (r .phase) ≡ true → r .named ≡ Some k → Justified net (intents rs) P book i (k .key)) →
+    ((k : Objection) → has-closed (r .phase) ≡ true → r .named ≡ Some k → Justified net (intents rs) P book i (k .key)) →
     (r .phase ≡ Refused → (k : Objection) × (r .named ≡ Some k)) →
     Refusals net P rs book air → Refusals net P (put rs i r) book air
 refusals-put net P rs i r book air e n f g = record {
   voted = λ m k h b. justified-same net (intents rs) (intents (put rs i r)) P book (m .tx) (k .key) e (g .voted m k h b);
   named = λ j k a b. justified-same net (intents rs) (intents (put rs i r)) P book j (k .key) e
-      (put-case (λ j x. shut (x .phase) ≡ true → x .named ≡ Some k → Justified net (intents rs) P book j (k .key)) rs i r (n k) (λ j _. g .named j k) j a b);
+      (put-case (λ j x. has-closed (x .phase) ≡ true → x .named ≡ Some k → Justified net (intents rs) P book j (k .key)) rs i r (n k) (λ j _. g .named j k) j a b);
   refused = put-case (λ j x. x .phase ≡ Refused → (k : Objection) × (x .named ≡ Some k)) rs i r f (λ j _. g .refused j);
 }
 
@@ -304,13 +304,13 @@ reads-more net P rs air ds q a z g = record {
 
 -- ## What a placed transaction's record says
 
-pub intent-shut : (r : Record) → shut (r .phase) ≡ true → intent r ≡ record { bound = r .bound; drafts = r .drafts }
-intent-shut r e = cond-true (shut (r .phase)) _ _ e
+pub intent-shut : (r : Record) → has-closed (r .phase) ≡ true → intent r ≡ record { bound = r .bound; drafts = r .drafts }
+intent-shut r e = cond-true (has-closed (r .phase)) _ _ e
 
 pub placed-intent : (P : List Placement) (rs : ℕ → Record) (E : Placement) → Granteds P rs → In E P → intent (rs (E .tx)) ≡ record { bound = E .bound; drafts = E .drafts }
 placed-intent P rs E g h =
     let f : Placement → Intent = λ x. record { bound = x .bound; drafts = x .drafts } in
-    intent-shut (rs (E .tx)) (ap shut (g E h .0)) ∙ sym (ap f (g E h .1))
+    intent-shut (rs (E .tx)) (ap has-closed (g E h .0)) ∙ sym (ap f (g E h .1))
 
 pub placed-once : (P : List Placement) (rs : ℕ → Record) (E F : Placement) → Granteds P rs → In E P → In F P → E .tx ≡ F .tx → E ≡ F
 placed-once P rs E F g h l e = g E h .1 ∙ ap (λ (n : ℕ). placed-as n (rs n)) e ∙ sym (g F l .1)

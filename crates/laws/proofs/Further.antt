@@ -13,12 +13,12 @@ use Rattle.messages.specs.declared.Draft.{Draft}
 use Rattle.tables.specs.declared.Phase.{Phase}
 use Rattle.tables.specs.declared.Phase.the-variants.{Open, Waiting, Closing, Granted, Refused, Dropped}
 use Rattle.laws.specs.Lists.{In, tally}
-use Rattle.laws.specs.Net.{Clock, Record, Body, query, answer, prepare, vote, granted, refused, Message, Placement, Net, _⊑_, Drafted, wrote, versions, taken, Seen, seen, shut, ballots, is-ballot}
+use Rattle.laws.specs.Net.{Clock, Record, Body, query, answer, prepare, vote, granted, refused, Message, Placement, Net, _⊑_, Drafted, wrote, versions, taken, Seen, seen, has-closed, ballots, is-ballot}
 use Rattle.laws.proofs.Model.{Logged, State, log-of}
 use Rattle.laws.specs.Words.{homed, granted-to, Event}
 use Rattle.laws.specs.History.{placedIn, begunIn, placedBeforeIn, originIn, draftsIn, Within, Outside}
 use Rattle.laws.specs.State.{Visible}
-use Rattle.laws.specs.Further.{Always, Causally-closed, Outcome-flies, Accounted, Versions-within-clock, Closing-awaits, Finds-room, Own-tower-seen, phase-for, Messages-at-home, Both-granted}
+use Rattle.laws.specs.Further.{Always, Causally-closed, Outcome-pending, Accounted, Versions-within-clock, Closing-awaits, Finds-room, Own-tower-seen, phase-for, Messages-at-home, Both-granted}
 use Rattle.laws.proofs.Lists.{in-append}
 use Rattle.laws.proofs.Placed.{number-le, written-none}
 use Rattle.laws.proofs.Invariant.{Holds, Invariant, is-read}
@@ -67,8 +67,8 @@ module _ (net : Net) (h : List Event) (s : State) (v : Invariant net s) (l : Lin
   not-seen : (E : Placement) (x : ℕ) (b : Clock) → In E (s .placed) → E .tx ≡ x → Outside h x b → Seen E b → ⊥
   not-seen E x b q e o u = let w = subst (λ (i : ℕ). Within h i b) e (within-of net h s v l E q b u) in omega (arith, o (w .0) (w .1), w .2)
 
-  flying-is : (x t : ℕ) → Outcome-flies (s .vis) x t → In x (placedIn h) × (t ≢ originIn h x) × Outside h x (s .vis .clocks t)
-  flying-is x t (m, n, ls, q, ex, et, b) =
+  pending-is : (x t : ℕ) → Outcome-pending (s .vis) x t → In x (placedIn h) × (t ≢ originIn h x) × Outside h x (s .vis .clocks t)
+  pending-is x t (m, n, ls, q, ex, et, b) =
       let y = v .outcomes .meant m n ls q b in
       let E = y .0 in
       let here : In (granted-to net E t) (s .vis .air) = subst (λ (u : ℕ). In (granted-to net E u) (s .vis .air)) et (subst (λ (z : Message). In z (s .vis .air)) (y .2) q) in
@@ -91,7 +91,7 @@ module _ (net : Net) (h : List Event) (s : State) (v : Invariant net s) (l : Lin
     let E = y .0 in
     let c = v .outcomes .coming E t (y .1) lt (λ e. d (e ∙ origin-is net h s v l E x (y .1) (y .2))) (not-seen E x (s .vis .clocks t) (y .1) (y .2) o) in
     (granted-to net E t, E .number, homed net t (E .drafts), c, y .2, refl, refl);
-    flying = flying-is;
+    pending = pending-is;
     balance = λ t o lt. g .owed .balance t o lt ∙ count-told h (s .placed) o (told-of net h s v l) ∙ ap (λ (is : List ℕ). tally (λ i. eqb (originIn h i) o) is) (l .placed);
   }
 
@@ -223,7 +223,7 @@ versions-none : (P : List Placement) (k : ℕ) → ((E : Placement) → In E P �
 versions-none [] k f = refl
 versions-none (T ∷ P) k f = rw (versions-none P k (λ E q. f E (inr q)), written-none (T .tx) (T .origin) (T .number) (T .drafts) k (f T (inl refl)))
 
-shut-cases : (p : Phase) → shut p ≡ true → (p ≡ Closing) ⊎ (p ≡ Granted) ⊎ (p ≡ Refused)
+shut-cases : (p : Phase) → has-closed p ≡ true → (p ≡ Closing) ⊎ (p ≡ Granted) ⊎ (p ≡ Refused)
 shut-cases Open e = absurd (both-ways false refl e)
 shut-cases Waiting e = absurd (both-ways false refl e)
 shut-cases Closing e = inl refl
@@ -233,7 +233,7 @@ shut-cases Dropped e = absurd (both-ways false refl e)
 
 -- a transaction that alone drafted its one key is granted, once it is closed and the air is empty
 module _ (net : Net) (h : List Event) (s : State) (v : Invariant net s) (l : Linked h s) (r : Logged net h s) (deep : net .depth ≡ 1) (empty : s .vis .air ≡ []) where
-  alone-granted : (i k : ℕ) → shut (s .vis .records i .phase) ≡ true → ((j : ℕ) → Drafted (draftsIn h i) j → j ≡ k) → ((j : ℕ) → j ≢ i → Drafted (draftsIn h j) k → ⊥) → s .vis .records i .phase ≡ Granted
+  alone-granted : (i k : ℕ) → has-closed (s .vis .records i .phase) ≡ true → ((j : ℕ) → Drafted (draftsIn h i) j → j ≡ k) → ((j : ℕ) → j ≢ i → Drafted (draftsIn h j) k → ⊥) → s .vis .records i .phase ≡ Granted
   alone-granted i k sh mine others = elim (shut-cases (s .vis .records i .phase) sh) [
     | inl c ↦ absurd (closing c)
     | inr x ↦ elim x [ inl c ↦ c | inr c ↦ absurd (refusal c) ]
@@ -273,11 +273,11 @@ both-run net h s r two =
     let only : (i : ℕ) (d : Draft) → draftsIn h i ≡ d ∷ [] → (j : ℕ) → Drafted (draftsIn h i) j → d .key ≡ j = λ i d e j q. elim (subst (λ (ds : List Draft). Drafted ds j) e q) [ inl x ↦ x | inr x ↦ absurd x ] in
     let third : (j k : ℕ) → j ≢ 0 → j ≢ 1 → Drafted (draftsIn h j) k → ⊥ = λ j k a b. unbegun-drafts net h s v l j k (omega (arith, two .two, a, b)) in
     (
-      alone-granted net h s v l r (two .one-deep) (two .silence) 0 (two .first .key) (two .first-closed) (λ j q. sym (only 0 (two .first) (two .first-drafts) j q)) (λ j n d. elim (cases-eq j 1) [
+      alone-granted net h s v l r (two .one-deep) (two .air-empty) 0 (two .first .key) (two .first-closed) (λ j q. sym (only 0 (two .first) (two .first-drafts) j q)) (λ j n d. elim (cases-eq j 1) [
         | inl e ↦ two .apart (sym (only 1 (two .second) (two .second-drafts) (two .first .key) (subst (λ (i : ℕ). Drafted (draftsIn h i) (two .first .key)) e d)))
         | inr e ↦ third j (two .first .key) n e d
       ]),
-      alone-granted net h s v l r (two .one-deep) (two .silence) 1 (two .second .key) (two .second-closed) (λ j q. sym (only 1 (two .second) (two .second-drafts) j q)) (λ j n d. elim (cases-eq j 0) [
+      alone-granted net h s v l r (two .one-deep) (two .air-empty) 1 (two .second .key) (two .second-closed) (λ j q. sym (only 1 (two .second) (two .second-drafts) j q)) (λ j n d. elim (cases-eq j 0) [
         | inl e ↦ two .apart (only 0 (two .first) (two .first-drafts) (two .second .key) (subst (λ (i : ℕ). Drafted (draftsIn h i) (two .second .key)) e d))
         | inr e ↦ third j (two .second .key) e n d
       ]),

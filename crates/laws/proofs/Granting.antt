@@ -17,7 +17,7 @@ use Rattle.messages.specs.declared.Objection.{Objection}
 use Rattle.laws.proofs.Conflicts.{none-some, either-none}
 use Rattle.laws.specs.State.{granted-record, placement}
 use Rattle.laws.specs.Lists.{put, In, At, without, either}
-use Rattle.laws.specs.Net.{Clock, Record, vote, granted, refused, Message, Placement, Net, _⊑_, Drafted, taken, count, Seen, seen, shut}
+use Rattle.laws.specs.Net.{Clock, Record, vote, granted, refused, Message, Placement, Net, _⊑_, Drafted, taken, count, Seen, seen, has-closed}
 use Rattle.laws.proofs.Model.{Answered, State, on, placing}
 use Rattle.laws.specs.Rules.{Ripe, asked, closed, granting, took, voted}
 use Rattle.laws.specs.Words.{voting, placed-as, homed, freed, granted-to, grants-to}
@@ -175,7 +175,7 @@ module _ (P : List Placement) (T : Placement) (n : T .number ≡ suc (count P (T
 
   -- an intent's bound is a bound
   fair-intent : (rs : ℕ → Record) (i : ℕ) → Numbered P → Bounds P rs → Fair P (intents rs i .bound)
-  fair-intent rs i m f = elim (shut (rs i .phase)) as (λ b. Fair P ((cond {A = Intent} b (record { bound = rs i .bound; drafts = rs i .drafts }) (record { bound = λ _. 0; drafts = [] })) .bound)) [
+  fair-intent rs i m f = elim (has-closed (rs i .phase)) as (λ b. Fair P ((cond {A = Intent} b (record { bound = rs i .bound; drafts = rs i .drafts }) (record { bound = λ _. 0; drafts = [] })) .bound)) [
     | true ↦ f i
     | false ↦ record { behind = λ j. omega arith; closed = λ E h s. absurd (omega (arith, s, number-pos P E m h)) }
   ]
@@ -253,7 +253,7 @@ grants-keeps net s p m named v ripe e one q =
     let now : rs i ≡ r = put-same (s .vis .records) i r i refl in
     let b = v .votes .sound m h (ap is-ballot e) in
     let c : old .phase ≡ Closing = b .closing in
-    let is = intent-shut old (ap shut c) in
+    let is = intent-shut old (ap has-closed c) in
     let same = same-put (s .vis .records) i r (inr (sym is)) in
     let n : T .number ≡ suc (count P (T .origin)) = ap suc (v .clocks .own o) in
     let all : (k : ℕ) → Drafted (T .drafts) k → Holds (s .vis .held) k (T .tx) = grants-holds net s p m named v a e one (either-none (old .named) named q) in

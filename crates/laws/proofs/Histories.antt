@@ -16,10 +16,10 @@ use Rattle.tables.specs.declared.Reading.{Reading}
 use Rattle.laws.specs.Lists.{put, either}
 use Rattle.laws.specs.Net.{Record, Placement, Net, content-of, writer-of}
 use Rattle.laws.proofs.Model.{Answered, Logged, State, after-step, next, noting, on, placing, start, then}
-use Rattle.laws.specs.Rules.{Rule, Step, agrees, asks, begins, closes, closes-empty, counts, drafts, drops, fails, grants, hears, lets-go, looks, obeys, objects, refuses, replies, takes-in}
+use Rattle.laws.specs.Rules.{Rule, Step, agrees, asks, begins, closes, closes-empty, counts, drafts, drops, fails, grants, receives, releases, reads-own, obeys, objects, refuses, replies, takes-in}
 use Rattle.laws.specs.State.{granted-record, placement, Visible}
 use Rattle.laws.specs.Words.{opened, in-phase, drafting, reading-at, voting, redrafted, prepares, Event}
-use Rattle.laws.specs.History.{placedIn, Counted, originIn, begunIn, draftsIn, Heard, readsIn}
+use Rattle.laws.specs.History.{placedIn, Counted, originIn, begunIn, draftsIn, Received, readsIn}
 use Rattle.laws.proofs.Lists.{put-keeps, put-case}
 use Rattle.laws.proofs.Invariant.{Invariant}
 use Rattle.laws.proofs.Stand.{run-holds}
@@ -28,9 +28,9 @@ abbrev pub txs : List Placement → List ℕ
 txs [] = []
 txs (T ∷ P) = T .tx ∷ txs P
 
-abbrev pub heards : List Answered → List Heard
-heards [] = []
-heards (d ∷ ds) = heards ds ++ record { tx = d .tx; key = d .key; content = content-of (d .shown) } ∷ []
+abbrev pub received-of : List Answered → List Received
+received-of [] = []
+received-of (d ∷ ds) = received-of ds ++ record { tx = d .tx; key = d .key; content = content-of (d .shown) } ∷ []
 
 -- the entries of the reading list
 abbrev pub noted : List Answered → List Reading
@@ -52,7 +52,7 @@ pub record Linked (h : List Event) (s : State) : Type 0 where
   pub origins : Origins h (s .vis .records)
   pub drafts : Drafts h (s .vis .records)
   pub placed : txs (s .placed) ≡ placedIn h
-  pub reads : heards (s .readings) ≡ readsIn h
+  pub reads : received-of (s .readings) ≡ readsIn h
   pub last : s .vis .last ≡ length (s .placed)
   pub entries : noted (s .readings) ≡ s .vis .readings
   pub counted : Counted h
@@ -98,7 +98,7 @@ linked-rule net {s} {c = call} {a = told} h v l (begins t b _ e) = subst (λ (w 
   entries = l .entries;
   counted = (l .begun, l .counted);
 })
-linked-rule net {s} {c = call} {a = told} h v l (looks i k d o g e) = subst (λ (w : Visible). Linked (after call told h) (on s w)) (sym e) (record { begun = l .begun; origins = l .origins; drafts = l .drafts; placed = l .placed; reads = l .reads; last = l .last; entries = l .entries; counted = (tt, l .counted) })
+linked-rule net {s} {c = call} {a = told} h v l (reads-own i k d o g e) = subst (λ (w : Visible). Linked (after call told h) (on s w)) (sym e) (record { begun = l .begun; origins = l .origins; drafts = l .drafts; placed = l .placed; reads = l .reads; last = l .last; entries = l .entries; counted = (tt, l .counted) })
 linked-rule net {s} {c = call} {a = told} h v l (asks i k o _ n e) = subst (λ (w : Visible). Linked (after call told h) (on s w)) (sym e) (record { begun = l .begun; origins = o-put h s i (in-phase Waiting (s .vis .records i)) l refl; drafts = d-put h s i (in-phase Waiting (s .vis .records i)) l refl; placed = l .placed; reads = l .reads; last = l .last; entries = l .entries; counted = (tt, l .counted) })
 linked-rule net {s} {c = call} {a = told} h v l (drafts i k w o _ _ e) = subst (λ (w : Visible). Linked (after call told h) (on s w)) (sym e) (record {
   begun = l .begun;
@@ -116,14 +116,14 @@ linked-rule net {s} {c = call} {a = told} h v l (closes i o n e) = subst (λ (w 
     let r = voting Closing (length (prepares net i (s .vis .records i) (net .towers))) None (s .vis .records i) in
     record { begun = l .begun; origins = o-put h s i r l refl; drafts = d-put h s i r l refl; placed = l .placed; reads = l .reads; last = l .last; entries = l .entries; counted = (tt, l .counted) })
 linked-rule net {s} {c = call} {a = told} h v l (replies p m k first r b e) = subst (λ (w : Visible). Linked (after call told h) (on s w)) (sym e) (record { begun = l .begun; origins = l .origins; drafts = l .drafts; placed = l .placed; reads = l .reads; last = l .last; entries = l .entries; counted = (tt, l .counted) })
-linked-rule net {s} {c = call} {a = told} h v l (hears p m k shown a b e) = subst (λ (w : Visible). Linked (after call told h) (noting s (record { tx = m .tx; key = k; shown = shown }) w)) (sym e) (
+linked-rule net {s} {c = call} {a = told} h v l (receives p m k shown a b e) = subst (λ (w : Visible). Linked (after call told h) (noting s (record { tx = m .tx; key = k; shown = shown }) w)) (sym e) (
     let r = reading-at (m .bound) (s .vis .records (m .tx)) in
     record {
       begun = l .begun;
       origins = o-put h s (m .tx) r l refl;
       drafts = d-put h s (m .tx) r l refl;
       placed = l .placed;
-      reads = ap (λ (x : List Heard). x ++ record { tx = m .tx; key = k; content = content-of shown } ∷ []) (l .reads);
+      reads = ap (λ (x : List Received). x ++ record { tx = m .tx; key = k; content = content-of shown } ∷ []) (l .reads);
       last = l .last;
       entries = ap (λ (x : List Reading). x ++ record { tx = m .tx; key = k; writer = writer-of shown } ∷ []) (l .entries);
       counted = (tt, l .counted);
@@ -150,7 +150,7 @@ linked-rule net {s} {c = call} {a = told} h v l (refuses p m named k r b one q e
     let r = voting Refused 0 (Some k) (s .vis .records (m .tx)) in
     record { begun = l .begun; origins = o-put h s (m .tx) r l refl; drafts = d-put h s (m .tx) r l refl; placed = l .placed; reads = l .reads; last = l .last; entries = l .entries; counted = (tt, l .counted) })
 linked-rule net {s} {c = call} {a = told} h v l (takes-in p m n lines r b q e) = subst (λ (w : Visible). Linked (after call told h) (on s w)) (sym e) (record { begun = l .begun; origins = l .origins; drafts = l .drafts; placed = l .placed; reads = l .reads; last = l .last; entries = l .entries; counted = (tt, l .counted) })
-linked-rule net {s} {c = call} {a = told} h v l (lets-go p m a b e) = subst (λ (w : Visible). Linked (after call told h) (on s w)) (sym e) (record { begun = l .begun; origins = l .origins; drafts = l .drafts; placed = l .placed; reads = l .reads; last = l .last; entries = l .entries; counted = (tt, l .counted) })
+linked-rule net {s} {c = call} {a = told} h v l (releases p m a b e) = subst (λ (w : Visible). Linked (after call told h) (on s w)) (sym e) (record { begun = l .begun; origins = l .origins; drafts = l .drafts; placed = l .placed; reads = l .reads; last = l .last; entries = l .entries; counted = (tt, l .counted) })
 
 linked-step : (net : Net) {s : State} {v′ : Visible} {c : Call} {a : Told} (h : List Event) → Invariant net s → Linked h s → (x : Step net (s .vis) v′ c a) → Linked (after c a h) (after-step net s x)
 linked-step net {s} {c = call} {a = told} h v l (fails f _ e) = subst (λ (w : Visible). Linked (after call told h) (on s w)) (sym e) (record { begun = l .begun; origins = l .origins; drafts = l .drafts; placed = l .placed; reads = l .reads; last = l .last; entries = l .entries; counted = (tt, l .counted) })

@@ -14,7 +14,7 @@ use Rattle.messages.specs.declared.Objection.{Objection}
 use Rattle.tables.specs.declared.Held.{Held}
 use Rattle.tables.specs.declared.Phase.the-variants.{Waiting, Closing, Granted, Refused}
 use Rattle.laws.specs.Lists.{In, tally}
-use Rattle.laws.specs.Net.{Clock, Record, Body, query, answer, prepare, vote, granted, refused, Message, Placement, Net, _⊑_, Drafted, versions, taken, count, Seen, newest-within, shut}
+use Rattle.laws.specs.Net.{Clock, Record, Body, query, answer, prepare, vote, granted, refused, Message, Placement, Net, _⊑_, Drafted, versions, taken, count, Seen, newest-within, has-closed}
 use Rattle.laws.proofs.Model.{Answered, State}
 use Rattle.laws.specs.Words.{blank, placed-as, homed, granted-to}
 use Rattle.laws.proofs.Placed.{Numbered, Ordered, Closed}
@@ -27,7 +27,7 @@ pub record Intent : Type 0 where
   pub drafts : List Draft
 
 abbrev pub intent : Record → Intent
-intent r = cond (shut (r .phase)) (record { bound = r .bound; drafts = r .drafts }) (record { bound = λ _. 0; drafts = [] })
+intent r = cond (has-closed (r .phase)) (record { bound = r .bound; drafts = r .drafts }) (record { bound = λ _. 0; drafts = [] })
 
 abbrev pub Intents : Type 0
 Intents = ℕ → Intent
@@ -150,7 +150,7 @@ pub record Justified (net : Net) (I : Intents) (P : List Placement) (book : ℕ 
 
 pub record Refusals (net : Net) (P : List Placement) (rs : ℕ → Record) (book : ℕ → List Version) (air : List Message) : Type 0 where
   pub voted : (m : Message) (k : Objection) → In m air → m .body ≡ vote (Some k) → Justified net (intents rs) P book (m .tx) (k .key)
-  pub named : (i : ℕ) (k : Objection) → shut (rs i .phase) ≡ true → rs i .named ≡ Some k → Justified net (intents rs) P book i (k .key)
+  pub named : (i : ℕ) (k : Objection) → has-closed (rs i .phase) ≡ true → rs i .named ≡ Some k → Justified net (intents rs) P book i (k .key)
   pub refused : (i : ℕ) → rs i .phase ≡ Refused → (k : Objection) × (rs i .named ≡ Some k)
 
 pub record Invariant (net : Net) (s : State) : Type 0 where

@@ -16,10 +16,10 @@ use Rattle.tables.specs.declared.Told.{Told}
 use Rattle.tables.specs.declared.Phase.the-variants.{Open, Waiting, Closing, Granted, Refused, Dropped}
 use Rattle.laws.proofs.Conflicts.{Conflicts, taken-by, unopposed, none-some}
 use Rattle.laws.specs.Lists.{put, In, At, without, tally, either}
-use Rattle.laws.specs.Net.{Clock, Record, Body, query, answer, prepare, vote, granted, refused, Message, Placement, Net, Drafted, newest-within, shut, is-ballot}
-use Rattle.laws.specs.Words.{opened, in-phase, drafting, reading-at, voting, placed-as, letter, redrafted, unless-none, holds-of, homed, freed, prepares, prepare-to, grants-to, refusals-to, Event}
+use Rattle.laws.specs.Net.{Clock, Record, Body, query, answer, prepare, vote, granted, refused, Message, Placement, Net, Drafted, newest-within, has-closed, is-ballot}
+use Rattle.laws.specs.Words.{opened, in-phase, drafting, reading-at, voting, placed-as, message, redrafted, unless-none, holds-of, homed, freed, prepares, prepare-to, grants-to, refusals-to, Event}
 use Rattle.laws.specs.History.{placedIn, number-of, numberIn, place-of, from-one}
-use Rattle.laws.specs.Rules.{Run, Rule, agrees, asks, begins, closes, closes-empty, counts, drafts, drops, grants, hears, lets-go, looks, objects, refuses, replies, takes-in}
+use Rattle.laws.specs.Rules.{Run, Rule, agrees, asks, begins, closes, closes-empty, counts, drafts, drops, grants, receives, releases, reads-own, objects, refuses, replies, takes-in}
 use Rattle.laws.specs.State.{granted-record, placement, Visible}
 use Rattle.laws.specs.Further.{Always, Held-once, Records-agree}
 use Rattle.laws.proofs.Model.{Logged, State, by-step, log-of, next, noting, on, placing, start, then}
@@ -149,7 +149,7 @@ module _ (net : Net) (s : State) (i : ℕ) (v : Invariant net s) (g : Kept net s
     | inl h ↦ g .unheld m ls k h b q x
     | inr h ↦ (
         let e : m .tx ≡ i = each-prepare net i (s .vis .records i) (net .towers) (λ x. x .tx ≡ i) (λ t. refl) m h in
-        no-intent (s .vis .records i) k (ap shut o) (v .holders .meant k i (subst (Holds (s .vis .held) k) e x)))
+        no-intent (s .vis .records i) k (ap has-closed o) (v .holders .meant k i (subst (Holds (s .vis .held) k) e x)))
   ]
 
 -- ## A home agrees
@@ -199,9 +199,9 @@ module _ (net : Net) (s : State) (p : ℕ) (m : Message) (lines : List Draft) (v
 
 rule-kept : (net : Net) {s : State} {v′ : Visible} {c : Call} {a : Told} → Invariant net s → More net s → Kept net s → (x : Rule net (s .vis) v′ c a) → Kept net (next net s x)
 rule-kept net {s} v r g (begins t l _ e) = subst (λ (w : Visible). Kept net (on s w)) (sym e) (record { once = g .once; lone = g .lone; unheld = g .unheld; won = won-put (s .placed) (s .vis .records) (s .vis .begun) (opened t (s .vis .clocks t)) (g .won) (λ x. absurd (differ Open Granted refl refl x)) })
-rule-kept net {s} v r g (looks i k d o h e) = subst (λ (w : Visible). Kept net (on s w)) (sym e) g
+rule-kept net {s} v r g (reads-own i k d o h e) = subst (λ (w : Visible). Kept net (on s w)) (sym e) g
 rule-kept net {s} v r g (asks i k o _ n e) = subst (λ (w : Visible). Kept net (on s w)) (sym e) (
-    let q = letter i (s .vis .records i .origin) (net .home k) (s .vis .records i .bound) (query k (not (s .vis .records i .answered))) in
+    let q = message i (s .vis .records i .origin) (net .home k) (s .vis .records i .bound) (query k (not (s .vis .records i .answered))) in
     record {
       once = g .once;
       lone = lone-sent (s .vis .air) (q ∷ []) (only (λ x. is-prepare (x .body) ≡ false) q refl) (g .lone);
@@ -219,21 +219,21 @@ rule-kept net {s} v r g (closes i o n e) = subst (λ (w : Visible). Kept net (on
 })
 rule-kept net {s} v r g (replies p m k first a b e) = subst (λ (w : Visible). Kept net (on s w)) (sym e) (
     let c : Clock = cond first (s .vis .clocks (m .to)) (m .bound) in
-    let q = letter (m .tx) (m .to) (m .from) c (answer k (newest-within c (s .vis .book k))) in
+    let q = message (m .tx) (m .to) (m .from) c (answer k (newest-within c (s .vis .book k))) in
     record {
       once = g .once;
       lone = lone-sent (without (s .vis .air) p) (q ∷ []) (only (λ x. is-prepare (x .body) ≡ false) q refl) (lone-landed (s .vis .air) p m (a .there) (g .lone));
       unheld = unheld-sent net (s .vis .held) (without (s .vis .air) p) (q ∷ []) (only (λ x. is-prepare (x .body) ≡ false) q refl) (unheld-landed net (s .vis .held) (s .vis .air) p (g .unheld));
       won = g .won;
     })
-rule-kept net {s} v r g (hears p m k shown a b e) = subst (λ (w : Visible). Kept net (noting s (record { tx = m .tx; key = k; shown = shown }) w)) (sym e) (record {
+rule-kept net {s} v r g (receives p m k shown a b e) = subst (λ (w : Visible). Kept net (noting s (record { tx = m .tx; key = k; shown = shown }) w)) (sym e) (record {
   once = g .once;
   lone = lone-landed (s .vis .air) p m a (g .lone);
   unheld = unheld-landed net (s .vis .held) (s .vis .air) p (g .unheld);
   won = won-put (s .placed) (s .vis .records) (m .tx) (reading-at (m .bound) (s .vis .records (m .tx))) (g .won) (λ x. absurd (differ Open Granted refl refl x));
 })
 rule-kept net {s} v r g (agrees p m lines a b n e) = subst (λ (w : Visible). Kept net (on s w)) (sym e) (
-    let q = letter (m .tx) (m .to) (m .from) (m .bound) (vote None) in
+    let q = message (m .tx) (m .to) (m .from) (m .bound) (vote None) in
     record {
       once = agrees-once net s p m lines v g r (a .there) b (unopposed net (s .vis) m lines n);
       lone = lone-sent (without (s .vis .air) p) (q ∷ []) (only (λ x. is-prepare (x .body) ≡ false) q refl) (lone-landed (s .vis .air) p m (a .there) (g .lone));
@@ -241,7 +241,7 @@ rule-kept net {s} v r g (agrees p m lines a b n e) = subst (λ (w : Visible). Ke
       won = g .won;
     })
 rule-kept net {s} v r g (objects p m lines k a b y e) = subst (λ (w : Visible). Kept net (on s w)) (sym e) (
-    let q = letter (m .tx) (m .to) (m .from) (m .bound) (vote (Some k)) in
+    let q = message (m .tx) (m .to) (m .from) (m .bound) (vote (Some k)) in
     record {
       once = g .once;
       lone = lone-sent (without (s .vis .air) p) (q ∷ []) (only (λ x. is-prepare (x .body) ≡ false) q refl) (lone-landed (s .vis .air) p m (a .there) (g .lone));
@@ -284,7 +284,7 @@ rule-kept net {s} v r g (takes-in p m n lines a b l e) = subst (λ (w : Visible)
   unheld = unheld-fewer net (s .vis .held) (freed net (m .tx) (m .to) (s .vis .held)) (without (s .vis .air) p) (holds-freed net (m .tx) (m .to) (s .vis .held)) (unheld-landed net (s .vis .held) (s .vis .air) p (g .unheld));
   won = g .won;
 })
-rule-kept net {s} v r g (lets-go p m a b e) = subst (λ (w : Visible). Kept net (on s w)) (sym e) (record {
+rule-kept net {s} v r g (releases p m a b e) = subst (λ (w : Visible). Kept net (on s w)) (sym e) (record {
   once = once-freed net (m .tx) (m .to) (s .vis .held) (g .once);
   lone = lone-landed (s .vis .air) p m a (g .lone);
   unheld = unheld-fewer net (s .vis .held) (freed net (m .tx) (m .to) (s .vis .held)) (without (s .vis .air) p) (holds-freed net (m .tx) (m .to) (s .vis .held)) (unheld-landed net (s .vis .held) (s .vis .air) p (g .unheld));

@@ -19,7 +19,7 @@ use Rattle.laws.specs.Net.{Clock, Placement, Net, Drafted, versions, count, Se
 use Rattle.laws.proofs.Model.{Answered, State, log-of}
 use Rattle.laws.specs.Words.{Event}
 use Rattle.laws.proofs.Facts.{Facts, Before, Refused-for}
-use Rattle.laws.specs.History.{placedIn, Earlier, originIn, draftsIn, number-after, number-of, numberIn, Within, Outside, versions-of, versionsIn, Heard}
+use Rattle.laws.specs.History.{placedIn, Earlier, originIn, draftsIn, number-after, number-of, numberIn, Within, Outside, versions-of, versionsIn, Received}
 use Rattle.laws.specs.State.{Visible}
 use Rattle.laws.specs.Laws.{Last-within, Showed, Each-showed, Cause, Laws, Laws-stand}
 use Rattle.laws.proofs.Placed.{Numbered, number-new}
@@ -28,7 +28,7 @@ use Rattle.laws.proofs.Frames.{placed-once, differ}
 use Rattle.laws.proofs.Ranges.{begun-phase}
 use Rattle.laws.proofs.Shown.{before-in}
 use Rattle.laws.proofs.Stand.{run-holds, facts-stand}
-use Rattle.laws.proofs.Histories.{txs, noted, heards, Linked, run-linked}
+use Rattle.laws.proofs.Histories.{txs, noted, received-of, Linked, run-linked}
 
 -- ## The placed transactions, and what the history tells of them
 
@@ -112,15 +112,15 @@ last-within b (x ∷ xs) = go (last-of (inside b) xs) (last-within b xs) (cases-
             let w′ : x .number ≤ b (x .origin) = subst (λ (z : Version). z .number ≤ b (z .origin)) e w in
             omega (arith, w′, leb-false _ _ c)
 
-each-more : (h : List Event) (v : Visible) (ds : List Heard) (es : List Reading) (d : Heard) (e : Reading) → Each-showed h v ds es → Showed h v d e → Each-showed h v (ds ++ d ∷ []) (es ++ e ∷ [])
+each-more : (h : List Event) (v : Visible) (ds : List Received) (es : List Reading) (d : Received) (e : Reading) → Each-showed h v ds es → Showed h v d e → Each-showed h v (ds ++ d ∷ []) (es ++ e ∷ [])
 each-more h v [] [] d e a x = (x, tt)
 each-more h v [] (f ∷ es) d e a x = absurd a
 each-more h v (c ∷ ds) [] d e a x = absurd a
 each-more h v (c ∷ ds) (f ∷ es) d e a x = (a .0, each-more h v ds es d e (a .1) x)
 
-each-showed : (h : List Event) (v : Visible) (rds : List Answered) → ((d : Answered) → In d rds → d .shown ≡ newest-within (v .records (d .tx) .bound) (versionsIn h (d .key))) → Each-showed h v (heards rds) (noted rds)
+each-showed : (h : List Event) (v : Visible) (rds : List Answered) → ((d : Answered) → In d rds → d .shown ≡ newest-within (v .records (d .tx) .bound) (versionsIn h (d .key))) → Each-showed h v (received-of rds) (noted rds)
 each-showed h v [] f = tt
-each-showed h v (d ∷ rds) f = each-more h v (heards rds) (noted rds) _ _ (each-showed h v rds (λ d g. f d (inr g))) (record {
+each-showed h v (d ∷ rds) f = each-more h v (received-of rds) (noted rds) _ _ (each-showed h v rds (λ d g. f d (inr g))) (record {
   same-tx = refl;
   same-key = refl;
   newest = d .shown;
@@ -211,10 +211,10 @@ module _ (net : Net) (h : List Event) (s : State) (v : Invariant net s) (l : Lin
     not-twice (s .placed) (r .0) (r .1) (v .order .numbered) (one (r .0) (r .1) (before-in (r .0) (r .1) (s .placed) (r .2)) (after-in (r .0) (r .1) (s .placed) (r .2)) (r .3 ∙ sym (r .4))) (r .2);
     replay = λ st k. f .books st k ∙ versions-are k;
     ordered = placed-ordered f;
-    shown = subst (λ (ds : List Heard). Each-showed h (s .vis) ds (s .vis .readings)) (l .reads) (subst (Each-showed h (s .vis) (heards (s .readings))) (l .entries)
+    shown = subst (λ (ds : List Received). Each-showed h (s .vis) ds (s .vis .readings)) (l .reads) (subst (Each-showed h (s .vis) (received-of (s .readings))) (l .entries)
         (each-showed h (s .vis) (s .readings) (λ d g. v .reads .shown d g ∙ ap (newest-within (s .vis .records (d .tx) .bound)) (versions-are (d .key)))));
     refused = λ i c. let r = f .refused i c in (r .0, cause-of i (r .0) (r .1));
-    blameless = λ i e c. let r = f .refused i c in subst (λ (ds : List Draft). Drafted ds (r .0 .key) → ⊥) (sym (l .drafts i ∙ e)) (λ d. d) (r .1 .drafted);
+    undrafted = λ i e c. let r = f .refused i c in subst (λ (ds : List Draft). Drafted ds (r .0 .key) → ⊥) (sym (l .drafts i ∙ e)) (λ d. d) (r .1 .drafted);
   }
 
 pub laws-stand : Laws-stand

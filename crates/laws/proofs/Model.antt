@@ -11,7 +11,7 @@ use Rattle.tables.specs.declared.Told.{Told}
 use Rattle.laws.specs.Net.{Placement, Net}
 use Rattle.laws.specs.Words.{voting, placed-as, Event}
 use Rattle.laws.specs.State.{placement, Visible, new}
-use Rattle.laws.specs.Rules.{Rule, Step, fails, obeys, begins, looks, asks, drafts, drops, closes-empty, closes, replies, hears, agrees, objects, counts, grants, refuses, takes-in, lets-go}
+use Rattle.laws.specs.Rules.{Rule, Step, fails, obeys, begins, reads-own, asks, drafts, drops, closes-empty, closes, replies, receives, agrees, objects, counts, grants, refuses, takes-in, releases}
 use Rattle.laws.specs.Rules as rules
 
 -- an answer that was delivered
@@ -37,10 +37,10 @@ abbrev pub noting : State → Answered → Visible → State
 noting s d w = record { vis = w; placed = s .placed; readings = d ∷ s .readings }
 
 abbrev pub next : (net : Net) (s : State) {v′ : Visible} {c : Call} {a : Told} → Rule net (s .vis) v′ c a → State
-next net s {v′ = w} (hears p m k shown x b e) = noting s (record { tx = m .tx; key = k; shown = shown }) w
+next net s {v′ = w} (receives p m k shown x b e) = noting s (record { tx = m .tx; key = k; shown = shown }) w
 next net s {v′ = w} (grants p m named r b l q e) = placing s (placement (s .vis) (m .tx)) w
 next net s {v′ = w} (begins t l b e) = on s w
-next net s {v′ = w} (looks i k d o q e) = on s w
+next net s {v′ = w} (reads-own i k d o q e) = on s w
 next net s {v′ = w} (asks i k o l n e) = on s w
 next net s {v′ = w} (drafts i k x o l n e) = on s w
 next net s {v′ = w} (drops i o e) = on s w
@@ -52,7 +52,7 @@ next net s {v′ = w} (objects p m ls n r b x e) = on s w
 next net s {v′ = w} (counts p m n r b l e) = on s w
 next net s {v′ = w} (refuses p m n x r b l q e) = on s w
 next net s {v′ = w} (takes-in p m n ls r b l e) = on s w
-next net s {v′ = w} (lets-go p m x b e) = on s w
+next net s {v′ = w} (releases p m x b e) = on s w
 
 abbrev pub after-step : (net : Net) (s : State) {v′ : Visible} {c : Call} {a : Told} → Step net (s .vis) v′ c a → State
 after-step net s {v′ = w} (fails f q e) = on s w
@@ -79,10 +79,10 @@ log-of net (rules.then {v = v} {v′ = v′} {c = c} {a = a} r x) =
     (after-step net (ih .0) y, then (ih .1) y, vis-after net (ih .0) y)
   where
     vis-next : (net : Net) (s : State) {v′ : Visible} {c : Call} {a : Told} (x : Rule net (s .vis) v′ c a) → next net s x .vis ≡ v′
-    vis-next net s (hears p m k shown x b e) = refl
+    vis-next net s (receives p m k shown x b e) = refl
     vis-next net s (grants p m named r b l q e) = refl
     vis-next net s (begins _ _ _ _) = refl
-    vis-next net s (looks _ _ _ _ _ _) = refl
+    vis-next net s (reads-own _ _ _ _ _ _) = refl
     vis-next net s (asks _ _ _ _ _ _) = refl
     vis-next net s (drafts _ _ _ _ _ _ _) = refl
     vis-next net s (drops _ _ _) = refl
@@ -94,7 +94,7 @@ log-of net (rules.then {v = v} {v′ = v′} {c = c} {a = a} r x) =
     vis-next net s (counts _ _ _ _ _ _ _) = refl
     vis-next net s (refuses _ _ _ _ _ _ _ _ _) = refl
     vis-next net s (takes-in _ _ _ _ _ _ _ _) = refl
-    vis-next net s (lets-go _ _ _ _ _) = refl
+    vis-next net s (releases _ _ _ _ _) = refl
 
     vis-after : (net : Net) (s : State) {v′ : Visible} {c : Call} {a : Told} (x : Step net (s .vis) v′ c a) → after-step net s x .vis ≡ v′
     vis-after net s (fails f q e) = refl

@@ -22,9 +22,9 @@ use Rattle.clocks.specs.declared.Content.{Content}
 use Rattle.laws.specs.Lists.{put, In, At, without, tally, those, either}
 use Rattle.laws.specs.Net.{Clock, Record, query, answer, prepare, vote, granted, refused, Message, Placement, Net, _⊑_, Drafted, written, Seen, newest-within, is-ballot, is-granted}
 use Rattle.laws.proofs.Model.{Logged, State, by-step, next, noting, on, placing, start, then}
-use Rattle.laws.specs.Rules.{Ripe, Rule, agrees, asks, begins, begun-at, closed, closes, closes-empty, counts, drafts, drops, grants, hears, lets-go, looks, objects, refuses, replies, takes-in}
+use Rattle.laws.specs.Rules.{Ripe, Rule, agrees, asks, begins, begun-at, closed, closes, closes-empty, counts, drafts, drops, grants, receives, releases, reads-own, objects, refuses, replies, takes-in}
 use Rattle.laws.specs.State.{granted-record, placement, Visible, amended}
-use Rattle.laws.specs.Words.{opened, in-phase, drafting, reading-at, voting, placed-as, letter, redrafted, homed, prepares, prepare-to, granted-to, grants-to, refusals-to, Event}
+use Rattle.laws.specs.Words.{opened, in-phase, drafting, reading-at, voting, placed-as, message, redrafted, homed, prepares, prepare-to, granted-to, grants-to, refusals-to, Event}
 use Rattle.laws.proofs.Lists.{put-other, put-all, put-keeps, in-at, in-append, in-without, none-left}
 use Rattle.laws.proofs.Placed.{drafted?, written-none}
 use Rattle.laws.proofs.Invariant.{Holds, Invariant, is-read}
@@ -262,8 +262,8 @@ takes-more net s p m n lines v g ripe e f =
         v .holders .room k (T .tx) (v .holders .until k T h d (subst (λ (u : ℕ). Seen T (s .vis .clocks u) → ⊥) (sym y) un)) in
         rw (en, el, q) (added-roomy net (s .vis .book) t T tidy room (g .roomy), took-owed net (s .placed) (s .vis .clocks) (s .vis .air) p t T (r .there) f′ (v .order .numbered) h (g .owed))
 
-hears-growing : (net : Net) (s : State) (p : ℕ) (m : Message) (k : ℕ) (shown : Option Version) → Invariant net s → At (s .vis .air) p m → m .body ≡ answer k shown → Growing (s .vis .records) (s .vis .air) → Growing (put (s .vis .records) (m .tx) (reading-at (m .bound) (s .vis .records (m .tx)))) (without (s .vis .air) p)
-hears-growing net s p m k shown v a e g x j w h b =
+receives-growing : (net : Net) (s : State) (p : ℕ) (m : Message) (k : ℕ) (shown : Option Version) → Invariant net s → At (s .vis .air) p m → m .body ≡ answer k shown → Growing (s .vis .records) (s .vis .air) → Growing (put (s .vis .records) (m .tx) (reading-at (m .bound) (s .vis .records (m .tx)))) (without (s .vis .air) p)
+receives-growing net s p m k shown v a e g x j w h b =
     rw (put-other (s .vis .records) (m .tx) (reading-at (m .bound) (s .vis .records (m .tx))) (x .tx) (λ q.
         none-left (λ y. eqb (y .tx) (m .tx) && is-read (y .body)) (s .vis .air) p m a (and-from _ _ (eq-eqb (m .tx) (m .tx) refl) (ap is-read e)) (v .reads .single (m .tx)) x h (and-from _ _ (eq-eqb _ _ (sym q)) (ap is-read b))))
     (g x j w (in-without (s .vis .air) p x h) b)
@@ -284,10 +284,10 @@ less (suc n) l = omega arith
 
 rule-more : (net : Net) {s : State} {v′ : Visible} {c : Call} {a : Told} → Invariant net s → More net s → (x : Rule net (s .vis) v′ c a) → More net (next net s x)
 rule-more net {s} v g (begins t l _ e) = subst (λ (w : Visible). More net (on s w)) (sym e) (begins-more net s t v g)
-rule-more net {s} v g (looks i k d o h e) = subst (λ (w : Visible). More net (on s w)) (sym e) g
+rule-more net {s} v g (reads-own i k d o h e) = subst (λ (w : Visible). More net (on s w)) (sym e) g
 rule-more net {s} v g (asks i k o _ n e) = subst (λ (w : Visible). More net (on s w)) (sym e) (
     let r = in-phase Waiting (s .vis .records i) in
-    let q = letter i (s .vis .records i .origin) (net .home k) (s .vis .records i .bound) (query k (not (s .vis .records i .answered))) in
+    let q = message i (s .vis .records i .origin) (net .home k) (s .vis .records i .bound) (query k (not (s .vis .records i .answered))) in
     record {
       ready = ready-put (s .vis .records) i r (g .ready) (λ c. absurd (differ Waiting Closing refl refl c));
       tidy = tidy-put (s .vis .records) i r (g .tidy) (g .tidy i);
@@ -301,7 +301,7 @@ rule-more net {s} v g (closes-empty i o n e) = subst (λ (w : Visible). More net
 rule-more net {s} v g (closes i o n e) = subst (λ (w : Visible). More net (on s w)) (sym e) (closes-more net s i n g)
 rule-more net {s} v g (replies p m k first r b e) = subst (λ (w : Visible). More net (on s w)) (sym e) (
     let c : Clock = cond first (s .vis .clocks (m .to)) (m .bound) in
-    let q = letter (m .tx) (m .to) (m .from) c (answer k (newest-within c (s .vis .book k))) in
+    let q = message (m .tx) (m .to) (m .from) c (answer k (newest-within c (s .vis .book k))) in
     record {
       ready = g .ready;
       tidy = g .tidy;
@@ -309,17 +309,17 @@ rule-more net {s} v g (replies p m k first r b e) = subst (λ (w : Visible). Mor
       growing = growing-sent (s .vis .records) (without (s .vis .air) p) (q ∷ []) (λ x j w h y. only (λ x. s .vis .records (x .tx) .bound ⊑ x .bound) q (reply-growing net s p m k first v r b) x h) (growing-landed (s .vis .records) (s .vis .air) p (g .growing));
       owed = swap-owed net (s .placed) (s .vis .clocks) (s .vis .air) p m (q ∷ []) (r .there) (ap is-granted b) (only (λ x. is-granted (x .body) ≡ false) q refl) (g .owed);
     })
-rule-more net {s} v g (hears p m k shown a b e) = subst (λ (w : Visible). More net (noting s (record { tx = m .tx; key = k; shown = shown }) w)) (sym e) (
+rule-more net {s} v g (receives p m k shown a b e) = subst (λ (w : Visible). More net (noting s (record { tx = m .tx; key = k; shown = shown }) w)) (sym e) (
     let r = reading-at (m .bound) (s .vis .records (m .tx)) in
     record {
       ready = ready-put (s .vis .records) (m .tx) r (g .ready) (λ c. absurd (differ Open Closing refl refl c));
       tidy = tidy-put (s .vis .records) (m .tx) r (g .tidy) (g .tidy (m .tx));
       roomy = g .roomy;
-      growing = hears-growing net s p m k shown v a b (g .growing);
+      growing = receives-growing net s p m k shown v a b (g .growing);
       owed = owed-landed net (s .placed) (s .vis .clocks) (s .vis .air) p m a (ap is-granted b) (g .owed);
     })
 rule-more net {s} v g (agrees p m lines r b n e) = subst (λ (w : Visible). More net (on s w)) (sym e) (
-    let q = letter (m .tx) (m .to) (m .from) (m .bound) (vote None) in
+    let q = message (m .tx) (m .to) (m .from) (m .bound) (vote None) in
     record {
       ready = g .ready;
       tidy = g .tidy;
@@ -328,7 +328,7 @@ rule-more net {s} v g (agrees p m lines r b n e) = subst (λ (w : Visible). More
       owed = swap-owed net (s .placed) (s .vis .clocks) (s .vis .air) p m (q ∷ []) (r .there) (ap is-granted b) (only (λ x. is-granted (x .body) ≡ false) q refl) (g .owed);
     })
 rule-more net {s} v g (objects p m lines k r b y e) = subst (λ (w : Visible). More net (on s w)) (sym e) (
-    let q = letter (m .tx) (m .to) (m .from) (m .bound) (vote (Some k)) in
+    let q = message (m .tx) (m .to) (m .from) (m .bound) (vote (Some k)) in
     record {
       ready = g .ready;
       tidy = g .tidy;
@@ -363,7 +363,7 @@ rule-more net {s} v g (refuses p m named k r b l q e) = subst (λ (w : Visible).
 rule-more net {s} v g (takes-in p m n lines r b l e) = subst (λ (w : Visible). More net (on s w)) (sym e) (
     let x = takes-more net s p m n lines v g r b l in
     record { ready = g .ready; tidy = g .tidy; roomy = x .0; growing = growing-landed (s .vis .records) (s .vis .air) p (g .growing); owed = x .1 })
-rule-more net {s} v g (lets-go p m a b e) = subst (λ (w : Visible). More net (on s w)) (sym e) (record {
+rule-more net {s} v g (releases p m a b e) = subst (λ (w : Visible). More net (on s w)) (sym e) (record {
   ready = g .ready;
   tidy = g .tidy;
   roomy = g .roomy;

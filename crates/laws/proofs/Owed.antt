@@ -9,7 +9,7 @@ use lib.Dec.{eqb}
 use Rattle.std.proofs.shelf.Tests.{eq-eqb, ne-eqb, eqb-true, cases-eq, cases-bool, both-ways, and-parts, and-from, and-left, and-right}
 use Rattle.messages.specs.declared.Draft.{Draft}
 use Rattle.laws.specs.Lists.{put, In, At, without, tally}
-use Rattle.laws.specs.Net.{Clock, Body, query, answer, prepare, vote, granted, refused, Message, Placement, Net, _⊑_, count, Seen, is-granted, owed-of}
+use Rattle.laws.specs.Net.{Clock, Body, query, answer, prepare, vote, granted, refused, Message, Placement, Net, _⊑_, count, Seen, is-granted, pending-of}
 use Rattle.laws.specs.Words.{granted-to, grants-to}
 use Rattle.laws.proofs.Lists.{put-same, put-other, in-append, in-without, tally-append, tally-at, tally-in, tally-none, none-left}
 use Rattle.laws.proofs.Placed.{Numbered, new-unseen, seen-or-same}
@@ -25,20 +25,20 @@ outcome-of i t m = eqb (m .tx) i && (eqb (m .to) t && is-granted (m .body))
 pub record Owed (net : Net) (P : List Placement) (cs : ℕ → Clock) (air : List Message) : Type 0 where
   pub lone : (i t : ℕ) → tally (outcome-of i t) air ≤ 1
   pub unseen : (E : Placement) (t : ℕ) → In E P → In (granted-to net E t) air → Seen E (cs t) → ⊥
-  pub balance : (t o : ℕ) → t < net .towers → cs t o + tally (owed-of o t) air ≡ count P o
+  pub balance : (t o : ℕ) → t < net .towers → cs t o + tally (pending-of o t) air ≡ count P o
 
 pub owed-landed : (net : Net) (P : List Placement) (cs : ℕ → Clock) (air : List Message) (p : ℕ) (m : Message) → At air p m → is-granted (m .body) ≡ false → Owed net P cs air → Owed net P cs (without air p)
 owed-landed net P cs air p m a e g = record {
   lone = λ i t. omega (arith, g .lone i t, tally-at (outcome-of i t) air p m a);
   unseen = λ E t h q. g .unseen E t h (in-without air p _ q);
-  balance = λ t o l. rw (sym (same-tally (owed-of o t) air p m a (and-right (eqb (m .from) o) _ (and-right (eqb (m .to) t) _ e)))) (g .balance t o l);
+  balance = λ t o l. rw (sym (same-tally (pending-of o t) air p m a (and-right (eqb (m .from) o) _ (and-right (eqb (m .to) t) _ e)))) (g .balance t o l);
 }
 
 pub owed-sent : (net : Net) (P : List Placement) (cs : ℕ → Clock) (air ms : List Message) → ((x : Message) → In x ms → is-granted (x .body) ≡ false) → Owed net P cs air → Owed net P cs (air ++ ms)
 owed-sent net P cs air ms e g = record {
   lone = λ i t. omega (arith, g .lone i t, tally-append (outcome-of i t) air ms, tally-none (outcome-of i t) ms (λ x h. and-right (eqb (x .tx) i) _ (and-right (eqb (x .to) t) _ (e x h))));
   unseen = λ E t h q. elim (in-append (granted-to net E t) air ms q) [ inl q ↦ g .unseen E t h q | inr q ↦ absurd (both-ways true (e (granted-to net E t) q) refl) ];
-  balance = λ t o l. omega (arith, g .balance t o l, tally-append (owed-of o t) air ms, tally-none (owed-of o t) ms (λ x h. and-right (eqb (x .from) o) _ (and-right (eqb (x .to) t) _ (e x h))));
+  balance = λ t o l. omega (arith, g .balance t o l, tally-append (pending-of o t) air ms, tally-none (pending-of o t) ms (λ x h. and-right (eqb (x .from) o) _ (and-right (eqb (x .to) t) _ (e x h))));
 }
 
 -- ## A granted outcome lands
@@ -61,25 +61,25 @@ module _ (net : Net) (P : List Placement) (cs : ℕ → Clock) (air : List Messa
       ]
       go (inr x) = old (subst (Seen E) (put-other cs t (put (cs t) (T .origin) (T .number)) u x) s)
 
-  took-balance : (u o : ℕ) → u < net .towers → passed cs t T u o + tally (owed-of o u) (without air p) ≡ count P o
+  took-balance : (u o : ℕ) → u < net .towers → passed cs t T u o + tally (pending-of o u) (without air p) ≡ count P o
   took-balance u o l = go (cases-eq t u) (cases-eq (T .origin) o)
     where
       m : Message
       m = granted-to net T t
 
-      less : tally (owed-of o u) air ≡ cond (eqb (T .origin) o && (eqb t u && true)) 1 0 + tally (owed-of o u) (without air p)
-      less = tally-at (owed-of o u) air p m a
+      less : tally (pending-of o u) air ≡ cond (eqb (T .origin) o && (eqb t u && true)) 1 0 + tally (pending-of o u) (without air p)
+      less = tally-at (pending-of o u) air p m a
 
-      go : (t ≡ u) ⊎ (t ≡ u → ⊥) → (T .origin ≡ o) ⊎ (T .origin ≡ o → ⊥) → passed cs t T u o + tally (owed-of o u) (without air p) ≡ count P o
+      go : (t ≡ u) ⊎ (t ≡ u → ⊥) → (T .origin ≡ o) ⊎ (T .origin ≡ o → ⊥) → passed cs t T u o + tally (pending-of o u) (without air p) ≡ count P o
       go (inl x) (inl y) =
-          let f : tally (owed-of o u) air ≡ 1 + tally (owed-of o u) (without air p) = rw (eq-eqb (T .origin) o y, eq-eqb t u x) at less in
+          let f : tally (pending-of o u) air ≡ 1 + tally (pending-of o u) (without air p) = rw (eq-eqb (T .origin) o y, eq-eqb t u x) at less in
           let z : suc (cs u o) ≡ T .number = subst (λ (w : ℕ). suc (cs u w) ≡ T .number) y (subst (λ (w : ℕ). suc (cs w (T .origin)) ≡ T .number) x e) in
           rw (put-same cs t (put (cs t) (T .origin) (T .number)) u x, put-same (cs t) (T .origin) (T .number) o y) (omega (arith, f, z, g .balance u o l))
       go (inl x) (inr y) =
-          let f : tally (owed-of o u) air ≡ 0 + tally (owed-of o u) (without air p) = rw (ne-eqb (T .origin) o y) at less in
+          let f : tally (pending-of o u) air ≡ 0 + tally (pending-of o u) (without air p) = rw (ne-eqb (T .origin) o y) at less in
           rw (put-same cs t (put (cs t) (T .origin) (T .number)) u x, put-other (cs t) (T .origin) (T .number) o y, x) (omega (arith, f, g .balance u o l))
       go (inr x) y =
-          let f : tally (owed-of o u) air ≡ 0 + tally (owed-of o u) (without air p) = rw (and-right (eqb (T .origin) o) (eqb t u && true) (and-left (eqb t u) true (ne-eqb t u x))) at less in
+          let f : tally (pending-of o u) air ≡ 0 + tally (pending-of o u) (without air p) = rw (and-right (eqb (T .origin) o) (eqb t u && true) (and-left (eqb t u) true (ne-eqb t u x))) at less in
           rw (put-other cs t (put (cs t) (T .origin) (T .number)) u x) (omega (arith, f, g .balance u o l))
 
   pub took-owed : Owed net P (passed cs t T) (without air p)
@@ -181,20 +181,20 @@ module _ (net : Net) (P : List Placement) (cs : ℕ → Clock) (rest : List Mess
       ]
       go q (inr x) = g .unseen E u l q (subst (Seen E) (put-other cs (T .origin) (put (cs (T .origin)) (T .origin) (T .number)) u x) s)
 
-  new-balance : (t o : ℕ) → t < net .towers → passed cs (T .origin) T t o + tally (owed-of o t) (rest ++ ms) ≡ count (T ∷ P) o
+  new-balance : (t o : ℕ) → t < net .towers → passed cs (T .origin) T t o + tally (pending-of o t) (rest ++ ms) ≡ count (T ∷ P) o
   new-balance t o l = go (cases-eq (T .origin) t) (cases-eq (T .origin) o)
     where
-      both : tally (owed-of o t) (rest ++ ms) ≡ tally (owed-of o t) rest + tally (owed-of o t) ms
-      both = tally-append (owed-of o t) rest ms
+      both : tally (pending-of o t) (rest ++ ms) ≡ tally (pending-of o t) rest + tally (pending-of o t) ms
+      both = tally-append (pending-of o t) rest ms
 
-      was : cs t o + tally (owed-of o t) rest ≡ count P o
+      was : cs t o + tally (pending-of o t) rest ≡ count P o
       was = g .balance t o l
 
-      silent : (T .origin ≢ o) ⊎ (T .origin ≡ t) → tally (owed-of o t) ms ≡ 0
-      silent (inl d) = tally-none (owed-of o t) ms (each-grant net T (net .towers) (λ x. owed-of o t x ≡ false) (λ u. and-left (eqb (T .origin) o) _ (ne-eqb (T .origin) o d)))
-      silent (inr q) = tally-none (owed-of o t) ms (each-away net T (net .towers) (λ x. owed-of o t x ≡ false) (λ u d. and-right (eqb (T .origin) o) _ (and-left (eqb u t) _ (ne-eqb u t (λ x. d (x ∙ sym q))))))
+      silent : (T .origin ≢ o) ⊎ (T .origin ≡ t) → tally (pending-of o t) ms ≡ 0
+      silent (inl d) = tally-none (pending-of o t) ms (each-grant net T (net .towers) (λ x. pending-of o t x ≡ false) (λ u. and-left (eqb (T .origin) o) _ (ne-eqb (T .origin) o d)))
+      silent (inr q) = tally-none (pending-of o t) ms (each-away net T (net .towers) (λ x. pending-of o t x ≡ false) (λ u d. and-right (eqb (T .origin) o) _ (and-left (eqb u t) _ (ne-eqb u t (λ x. d (x ∙ sym q))))))
 
-      go : (T .origin ≡ t) ⊎ (T .origin ≡ t → ⊥) → (T .origin ≡ o) ⊎ (T .origin ≡ o → ⊥) → passed cs (T .origin) T t o + tally (owed-of o t) (rest ++ ms) ≡ count (T ∷ P) o
+      go : (T .origin ≡ t) ⊎ (T .origin ≡ t → ⊥) → (T .origin ≡ o) ⊎ (T .origin ≡ o → ⊥) → passed cs (T .origin) T t o + tally (pending-of o t) (rest ++ ms) ≡ count (T ∷ P) o
       go (inl x) (inl y) =
           let z : suc (cs t o) ≡ T .number = subst (λ (w : ℕ). suc (cs t w) ≡ T .number) y (subst (λ (w : ℕ). suc (cs w (T .origin)) ≡ T .number) x e) in
           rw (put-same cs (T .origin) (put (cs (T .origin)) (T .origin) (T .number)) t x, put-same (cs (T .origin)) (T .origin) (T .number) o y, eq-eqb (T .origin) o y) (omega (arith, both, was, silent (inr x), z))
@@ -204,9 +204,9 @@ module _ (net : Net) (P : List Placement) (cs : ℕ → Clock) (rest : List Mess
       go (inr x) (inr y) =
           rw (put-other cs (T .origin) (put (cs (T .origin)) (T .origin) (T .number)) t x, ne-eqb (T .origin) o y) (omega (arith, both, was, silent (inl y)))
       go (inr x) (inl y) =
-          let f : (u : ℕ) → u ≢ t → owed-of o t (granted-to net T u) ≡ false = λ u d. and-right (eqb (T .origin) o) _ (and-left (eqb u t) _ (ne-eqb u t d)) in
-          let some : 1 ≤ tally (owed-of o t) ms = tally-in (owed-of o t) ms (granted-to net T t) (grants-has net T (net .towers) t l (λ q. x (sym q))) (and-from _ _ (eq-eqb (T .origin) o y) (and-from _ _ (eq-eqb t t refl) refl)) in
-          rw (put-other cs (T .origin) (put (cs (T .origin)) (T .origin) (T .number)) t x, eq-eqb (T .origin) o y) (omega (arith, both, was, some, grants-most net T (owed-of o t) t f (net .towers) .1))
+          let f : (u : ℕ) → u ≢ t → pending-of o t (granted-to net T u) ≡ false = λ u d. and-right (eqb (T .origin) o) _ (and-left (eqb u t) _ (ne-eqb u t d)) in
+          let some : 1 ≤ tally (pending-of o t) ms = tally-in (pending-of o t) ms (granted-to net T t) (grants-has net T (net .towers) t l (λ q. x (sym q))) (and-from _ _ (eq-eqb (T .origin) o y) (and-from _ _ (eq-eqb t t refl) refl)) in
+          rw (put-other cs (T .origin) (put (cs (T .origin)) (T .origin) (T .number)) t x, eq-eqb (T .origin) o y) (omega (arith, both, was, some, grants-most net T (pending-of o t) t f (net .towers) .1))
 
   pub grants-owed : Owed net (T ∷ P) (passed cs (T .origin) T) (rest ++ ms)
   grants-owed = record {

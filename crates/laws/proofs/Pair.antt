@@ -11,7 +11,7 @@ use Rattle.tables.specs.declared.Told.{Told}
 use Rattle.tables.specs.declared.Told.the-variants.{Begun, Sent, Drafts, Prepared, Placed, Ended}
 use Rattle.laws.specs.Lists.{put}
 use Rattle.laws.specs.Net.{Clock, prepare, vote, granted, Message, Net}
-use Rattle.laws.specs.Words.{drafting, redrafted, letter, holds-of, Event}
+use Rattle.laws.specs.Words.{drafting, redrafted, message, holds-of, Event}
 use Rattle.laws.specs.History.{placedIn, numberIn, versionsIn}
 use Rattle.laws.specs.State.{Visible, amended, holding, new}
 use Rattle.laws.specs.Rules.{begun-at, closed, voted, granting, took, Run, start, then, obeys, begins, drafts, closes, agrees, grants, takes-in}
@@ -43,10 +43,10 @@ abbrev v6 : Visible
 v6 = closed pair (closed pair v4 0) 1
 
 abbrev ask0 : Message
-ask0 = letter 0 0 0 zeros (prepare (five ∷ []))
+ask0 = message 0 0 0 zeros (prepare (five ∷ []))
 
 abbrev ask1 : Message
-ask1 = letter 1 1 1 zeros (prepare (six ∷ []))
+ask1 = message 1 1 1 zeros (prepare (six ∷ []))
 
 abbrev v7 : Visible
 v7 = holding (voted pair v6 0 ask0 None) (v6 .held ++ holds-of 0 0 (five ∷ []))
@@ -55,19 +55,19 @@ abbrev v8 : Visible
 v8 = holding (voted pair v7 0 ask1 None) (v7 .held ++ holds-of 1 1 (six ∷ []))
 
 abbrev yes0 : Message
-yes0 = letter 0 0 0 zeros (vote None)
+yes0 = message 0 0 0 zeros (vote None)
 
 abbrev yes1 : Message
-yes1 = letter 1 1 1 zeros (vote None)
+yes1 = message 1 1 1 zeros (vote None)
 
 abbrev v10 : Visible
 v10 = granting pair (granting pair v8 0 yes0) 0 yes1
 
 abbrev won0 : Message
-won0 = letter 0 0 1 zeros (granted 1 [])
+won0 = message 0 0 1 zeros (granted 1 [])
 
 abbrev won1 : Message
-won1 = letter 1 1 0 zeros (granted 1 [])
+won1 = message 1 1 0 zeros (granted 1 [])
 
 abbrev v12 : Visible
 v12 = took pair (took pair v10 0 won0 1 []) 0 won1 1 []
@@ -135,7 +135,7 @@ alone = record {
   apart = λ e. let z : _≡_ {A = ℕ} 0 1 = cc e in omega (arith, z);
   first-closed = refl;
   second-closed = refl;
-  silence = refl;
+  air-empty = refl;
 }
 
 both : (v12 .records 0 .phase ≡ Granted) × (v12 .records 1 .phase ≡ Granted)

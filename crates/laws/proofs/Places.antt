@@ -18,7 +18,7 @@ use Rattle.laws.specs.Net.{Record, Net}
 use Rattle.laws.specs.Words.{opened, in-phase, drafting, reading-at, voting, redrafted, prepares, Event}
 use Rattle.laws.specs.State.{Visible, granted-record, placement}
 use Rattle.laws.specs.History.{place-of, from-one}
-use Rattle.laws.specs.Rules.{Rule, begins, looks, asks, drafts, drops, closes-empty, closes, replies, hears, agrees, objects, counts, grants, refuses, takes-in, lets-go}
+use Rattle.laws.specs.Rules.{Rule, begins, reads-own, asks, drafts, drops, closes-empty, closes, replies, receives, agrees, objects, counts, grants, refuses, takes-in, releases}
 use Rattle.laws.proofs.Model.{State, on, noting, placing, next, by-step, Logged, start, then}
 use Rattle.laws.proofs.Lists.{put-case, put-keeps}
 use Rattle.laws.proofs.Invariant.{Invariant}
@@ -42,14 +42,14 @@ rule-places net {s} v l g (begins t _ _ e) = subst (λ (w : Visible). Places (on
     let b = v .unbegun (s .vis .begun) (omega arith) in
     let k = kept s (s .vis .begun) (opened t (s .vis .clocks t)) (sym (ap (λ (x : Record). x .place) b)) (sym (ap (λ (x : Record). x .number) b)) g in
     record { place = k .0; number = k .1 })
-rule-places net {s} v l g (looks i k d o q e) = subst (λ (w : Visible). Places (on s w)) (sym e) (record { place = g .place; number = g .number })
+rule-places net {s} v l g (reads-own i k d o q e) = subst (λ (w : Visible). Places (on s w)) (sym e) (record { place = g .place; number = g .number })
 rule-places net {s} v l g (asks i k o _ n e) = subst (λ (w : Visible). Places (on s w)) (sym e) (let k = kept s i (in-phase Waiting (s .vis .records i)) refl refl g in record { place = k .0; number = k .1 })
 rule-places net {s} v l g (drafts i k x o _ _ e) = subst (λ (w : Visible). Places (on s w)) (sym e) (let k = kept s i (drafting (redrafted k x (s .vis .records i .drafts)) (s .vis .records i)) refl refl g in record { place = k .0; number = k .1 })
 rule-places net {s} v l g (drops i o e) = subst (λ (w : Visible). Places (on s w)) (sym e) (let k = kept s i (in-phase Dropped (s .vis .records i)) refl refl g in record { place = k .0; number = k .1 })
 rule-places net {s} v l g (closes-empty i o n e) = subst (λ (w : Visible). Places (on s w)) (sym e) (let k = kept s i (voting Granted 0 None (s .vis .records i)) refl refl g in record { place = k .0; number = k .1 })
 rule-places net {s} v l g (closes i o n e) = subst (λ (w : Visible). Places (on s w)) (sym e) (let k = kept s i (voting Closing (length (prepares net i (s .vis .records i) (net .towers))) None (s .vis .records i)) refl refl g in record { place = k .0; number = k .1 })
 rule-places net {s} v l g (replies p m k first r b e) = subst (λ (w : Visible). Places (on s w)) (sym e) (record { place = g .place; number = g .number })
-rule-places net {s} v l g (hears p m k shown x b e) = subst (λ (w : Visible). Places (noting s (record { tx = m .tx; key = k; shown = shown }) w)) (sym e) (let k = kept s (m .tx) (reading-at (m .bound) (s .vis .records (m .tx))) refl refl g in record { place = k .0; number = k .1 })
+rule-places net {s} v l g (receives p m k shown x b e) = subst (λ (w : Visible). Places (noting s (record { tx = m .tx; key = k; shown = shown }) w)) (sym e) (let k = kept s (m .tx) (reading-at (m .bound) (s .vis .records (m .tx))) refl refl g in record { place = k .0; number = k .1 })
 rule-places net {s} v l g (agrees p m lines r b n e) = subst (λ (w : Visible). Places (on s w)) (sym e) (record { place = g .place; number = g .number })
 rule-places net {s} v l g (objects p m lines x r b n e) = subst (λ (w : Visible). Places (on s w)) (sym e) (record { place = g .place; number = g .number })
 rule-places net {s} v l g (counts p m named r b q e) = subst (λ (w : Visible). Places (on s w)) (sym e) (let k = kept s (m .tx) (voting Closing (pred (s .vis .records (m .tx) .awaited)) (either (s .vis .records (m .tx) .named) named) (s .vis .records (m .tx))) refl refl g in record { place = k .0; number = k .1 })
@@ -64,7 +64,7 @@ rule-places net {s} v l g (grants p m named r b one q e) = subst (λ (w : Visibl
     })
 rule-places net {s} v l g (refuses p m named x r b one q e) = subst (λ (w : Visible). Places (on s w)) (sym e) (let k = kept s (m .tx) (voting Refused 0 (Some x) (s .vis .records (m .tx))) refl refl g in record { place = k .0; number = k .1 })
 rule-places net {s} v l g (takes-in p m n lines r b q e) = subst (λ (w : Visible). Places (on s w)) (sym e) (record { place = g .place; number = g .number })
-rule-places net {s} v l g (lets-go p m x b e) = subst (λ (w : Visible). Places (on s w)) (sym e) (record { place = g .place; number = g .number })
+rule-places net {s} v l g (releases p m x b e) = subst (λ (w : Visible). Places (on s w)) (sym e) (record { place = g .place; number = g .number })
 
 pub run-places : (net : Net) {h : List Event} {s : State} → Logged net h s → Places s
 run-places net start = record { place = λ i. refl; number = λ i _. refl }

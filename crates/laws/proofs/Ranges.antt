@@ -17,7 +17,7 @@ use Rattle.tables.specs.declared.Phase.the-variants.{Waiting, Closing, Granted,
 use Rattle.laws.specs.Lists.{put, In, without}
 use Rattle.laws.specs.Net.{Record, Body, query, answer, prepare, vote, granted, refused, Message, Placement, Net}
 use Rattle.laws.proofs.Model.{Logged, State, by-step, next, noting, on, placing, start, then}
-use Rattle.laws.specs.Rules.{Rule, agrees, asks, begins, closes, closes-empty, counts, drafts, drops, grants, hears, lets-go, looks, objects, refuses, replies, takes-in}
+use Rattle.laws.specs.Rules.{Rule, agrees, asks, begins, closes, closes-empty, counts, drafts, drops, grants, receives, releases, reads-own, objects, refuses, replies, takes-in}
 use Rattle.laws.specs.State.{placement, Visible}
 use Rattle.laws.specs.Words.{in-phase, drafting, reading-at, voting, redrafted, unless-none, homed, prepare-to, granted-to, refused-to, prepares, grants-to, refusals-to, Event}
 use Rattle.laws.proofs.Lists.{put-all, in-at, in-append, in-without}
@@ -80,7 +80,7 @@ answered-by net s p m q g h t f =
 
 rule-ranges : (net : Net) {s : State} {v′ : Visible} {c : Call} {a : Told} → Ranges net s → (x : Rule net (s .vis) v′ c a) → Ranges net (next net s x)
 rule-ranges net {s} g (begins t l _ e) = subst (λ (w : Visible). Ranges net (on s w)) (sym e) (record { origins = origins-put net (s .vis .records) (s .vis .begun) _ (g .origins) l; mail = g .mail })
-rule-ranges net {s} g (looks i k d o h e) = subst (λ (w : Visible). Ranges net (on s w)) (sym e) g
+rule-ranges net {s} g (reads-own i k d o h e) = subst (λ (w : Visible). Ranges net (on s w)) (sym e) g
 rule-ranges net {s} g (asks i k o _ n e) = subst (λ (w : Visible). Ranges net (on s w)) (sym e) (record {
   origins = origins-put net (s .vis .records) i (in-phase Waiting (s .vis .records i)) (g .origins) (g .origins i);
   mail = mail-sent net (s .vis .air) _ (g .mail) (only (Posted net) _ (net .housed k, g .origins i));
@@ -93,7 +93,7 @@ rule-ranges net {s} g (closes i o n e) = subst (λ (w : Visible). Ranges net (on
   mail = mail-sent net (s .vis .air) _ (g .mail) (mail-prepares net i (s .vis .records i) (net .towers) (g .origins i) (omega arith));
 })
 rule-ranges net {s} g (replies p m k first r b e) = subst (λ (w : Visible). Ranges net (on s w)) (sym e) (record { origins = g .origins; mail = answered-by net s p m _ g (in-at (s .vis .air) p m (r .there)) refl refl })
-rule-ranges net {s} g (hears p m k shown a b e) = subst (λ (w : Visible). Ranges net (noting s (record { tx = m .tx; key = k; shown = shown }) w)) (sym e) (record {
+rule-ranges net {s} g (receives p m k shown a b e) = subst (λ (w : Visible). Ranges net (noting s (record { tx = m .tx; key = k; shown = shown }) w)) (sym e) (record {
   origins = origins-put net (s .vis .records) (m .tx) (reading-at (m .bound) (s .vis .records (m .tx))) (g .origins) (g .origins (m .tx));
   mail = mail-landed net (s .vis .air) p (g .mail);
 })
@@ -112,7 +112,7 @@ rule-ranges net {s} g (refuses p m named k r b l q e) = subst (λ (w : Visible).
   mail = mail-sent net (without (s .vis .air) p) _ (mail-landed net (s .vis .air) p (g .mail)) (mail-refusals net (m .tx) (s .vis .records (m .tx)) (net .towers) (g .origins (m .tx)) (omega arith));
 })
 rule-ranges net {s} g (takes-in p m n lines r b l e) = subst (λ (w : Visible). Ranges net (on s w)) (sym e) (record { origins = g .origins; mail = mail-landed net (s .vis .air) p (g .mail) })
-rule-ranges net {s} g (lets-go p m a b e) = subst (λ (w : Visible). Ranges net (on s w)) (sym e) (record { origins = g .origins; mail = mail-landed net (s .vis .air) p (g .mail) })
+rule-ranges net {s} g (releases p m a b e) = subst (λ (w : Visible). Ranges net (on s w)) (sym e) (record { origins = g .origins; mail = mail-landed net (s .vis .air) p (g .mail) })
 
 pub run-ranges : (net : Net) {h : List Event} {s : State} → Logged net h s → Ranges net s
 run-ranges net start = record { origins = λ i. omega (arith, net .housed 0); mail = λ m h. absurd h }

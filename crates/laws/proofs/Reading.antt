@@ -12,10 +12,10 @@ use Rattle.std.proofs.shelf.Tests.{eq-eqb, cond-true, cond-false, both-ways, an
 use Rattle.clocks.specs.declared.Version.{Version}
 use Rattle.tables.specs.declared.Phase.the-variants.{Open, Waiting, Closing, Granted, Refused, Dropped}
 use Rattle.laws.specs.Lists.{put, In, At, without}
-use Rattle.laws.specs.Net.{Clock, Record, Body, query, answer, vote, refused, Message, Net, _⊑_, versions, newest-within, shut}
+use Rattle.laws.specs.Net.{Clock, Record, Body, query, answer, vote, refused, Message, Net, _⊑_, versions, newest-within, has-closed}
 use Rattle.laws.proofs.Model.{Answered, State, noting, on}
-use Rattle.laws.specs.Rules.{Ripe, asked, closed, heard, replied}
-use Rattle.laws.specs.Words.{reading-at, letter}
+use Rattle.laws.specs.Rules.{Ripe, asked, closed, received, replied}
+use Rattle.laws.specs.Words.{reading-at, message}
 use Rattle.laws.proofs.Lists.{put-same, put-other, put-case, in-at, tally-at, none-left}
 use Rattle.laws.proofs.Placed.{shown-of-book}
 use Rattle.laws.proofs.Invariant.{intents, is-read, is-ballot, is-granted, is-refused, reads, Fair, Justified, Invariant}
@@ -46,7 +46,7 @@ replies-keeps net s p m k first v ripe e =
     let asked = g .asked m k first h e in
     let c : Clock = cond first (s .vis .clocks (m .to)) (m .bound) in
     let shown = newest-within c (s .vis .book k) in
-    let q = letter (m .tx) (m .to) (m .from) c (answer k shown) in
+    let q = message (m .tx) (m .to) (m .from) c (answer k shown) in
     let rest = without (s .vis .air) p in
     let fair : Fair P c = elim first as (λ b. Fair P (cond b (s .vis .clocks (m .to)) (m .bound))) [
       | true ↦ record { behind = v .clocks .behind (m .to); closed = v .clocks .closed (m .to) }
@@ -87,8 +87,8 @@ replies-keeps net s p m k first v ripe e =
           (refusals-landed net P rs (s .vis .book) (s .vis .air) p (v .refusals));
     }
 
-pub hears-keeps : (net : Net) (s : State) (p : ℕ) (m : Message) (k : ℕ) (shown : Option Version) → Invariant net s → At (s .vis .air) p m → m .body ≡ answer k shown → Invariant net (noting s (record { tx = m .tx; key = k; shown = shown }) (heard net (s .vis) p m k shown))
-hears-keeps net s p m k shown v a e =
+pub receives-keeps : (net : Net) (s : State) (p : ℕ) (m : Message) (k : ℕ) (shown : Option Version) → Invariant net s → At (s .vis .air) p m → m .body ≡ answer k shown → Invariant net (noting s (record { tx = m .tx; key = k; shown = shown }) (received net (s .vis) p m k shown))
+receives-keeps net s p m k shown v a e =
     let h = in-at (s .vis .air) p m a in
     let rd : is-read (m .body) ≡ true = ap is-read e in
     let g = v .reads in
@@ -99,7 +99,7 @@ hears-keeps net s p m k shown v a e =
     let rs = put (s .vis .records) i r in
     let rest = without (s .vis .air) p in
     let w : old .phase ≡ Waiting = g .waiting m h rd in
-    let same = same-put (s .vis .records) i r (inl (ap shut w)) in
+    let same = same-put (s .vis .records) i r (inl (ap has-closed w)) in
     let others : (x : Message) → In x rest → is-read (x .body) ≡ true → rs (x .tx) ≡ s .vis .records (x .tx) =
     λ x h b. put-other (s .vis .records) i r (x .tx) (other-read (s .vis .air) p m a rd (g .single i) x h b) in
     let l = reads-landed net P (s .vis .records) (s .vis .air) (s .readings) p m a g in

@@ -11,9 +11,9 @@ use Rattle.tables.specs.declared.Phase.the-variants.{Closing, Refused, Dropped}
 use Rattle.messages.specs.declared.Objection.{Objection}
 use Rattle.laws.proofs.Conflicts.{unopposed, opposed}
 use Rattle.laws.specs.Lists.{In}
-use Rattle.laws.specs.Net.{Record, refused, Placement, Net, Drafted, Seen, seen, shut}
+use Rattle.laws.specs.Net.{Record, refused, Placement, Net, Drafted, Seen, seen, has-closed}
 use Rattle.laws.proofs.Model.{Logged, State, by-step, first, next, noting, on, placing, start, then}
-use Rattle.laws.specs.Rules.{Rule, agrees, asked, asks, begins, closed, closes, closes-empty, counts, drafts, drops, grants, hears, lets-go, looks, objects, refuses, replies, takes-in, voted}
+use Rattle.laws.specs.Rules.{Rule, agrees, asked, asks, begins, closed, closes, closes-empty, counts, drafts, drops, grants, receives, releases, reads-own, objects, refuses, replies, takes-in, voted}
 use Rattle.laws.specs.State.{placement, Visible}
 use Rattle.laws.specs.Words.{redrafted, homed, granted-to, Event}
 use Rattle.laws.proofs.Placed.{Ordered, number-le, taken-all}
@@ -23,28 +23,28 @@ use Rattle.tables.specs.declared.Call.{Call}
 use Rattle.tables.specs.declared.Told.{Told}
 use Rattle.laws.proofs.Facts.{Before, Refused-for, Settled, Facts-stand}
 use Rattle.laws.proofs.Calls.{begins-keeps, asks-keeps, drafts-keeps, drops-keeps, closes-empty-keeps, closes-keeps}
-use Rattle.laws.proofs.Reading.{replies-keeps, hears-keeps}
-use Rattle.laws.proofs.Voting.{agrees-keeps, objects-keeps, counts-keeps, refuses-keeps, lets-go-keeps}
+use Rattle.laws.proofs.Reading.{replies-keeps, receives-keeps}
+use Rattle.laws.proofs.Voting.{agrees-keeps, objects-keeps, counts-keeps, refuses-keeps, releases-keeps}
 use Rattle.laws.proofs.Shown.{shown-right}
 use Rattle.laws.proofs.Granting.{takes-in-keeps, grants-keeps}
 
 rule-keeps : (net : Net) {s : State} {v′ : Visible} {c : Call} {a : Told} → Invariant net s → (x : Rule net (s .vis) v′ c a) → Invariant net (next net s x)
 rule-keeps net {s} v (begins t l _ e) = subst (λ (w : Visible). Invariant net (on s w)) (sym e) (begins-keeps net s t v)
-rule-keeps net {s} v (looks i k d o h e) = subst (λ (w : Visible). Invariant net (on s w)) (sym e) v
+rule-keeps net {s} v (reads-own i k d o h e) = subst (λ (w : Visible). Invariant net (on s w)) (sym e) v
 rule-keeps net {s} v (asks i k o _ n e) = subst (λ (w : Visible). Invariant net (on s w)) (sym e) (asks-keeps net s i k v o)
 rule-keeps net {s} v (drafts i k w o _ _ e) = subst (λ (w : Visible). Invariant net (on s w)) (sym e) (drafts-keeps net s i (redrafted k w (s .vis .records i .drafts)) v o)
 rule-keeps net {s} v (drops i o e) = subst (λ (w : Visible). Invariant net (on s w)) (sym e) (drops-keeps net s i v o)
 rule-keeps net {s} v (closes-empty i o n e) = subst (λ (w : Visible). Invariant net (on s w)) (sym e) (closes-empty-keeps net s i v o)
 rule-keeps net {s} v (closes i o n e) = subst (λ (w : Visible). Invariant net (on s w)) (sym e) (closes-keeps net s i v o)
 rule-keeps net {s} v (replies p m k first r b e) = subst (λ (w : Visible). Invariant net (on s w)) (sym e) (replies-keeps net s p m k first v r b)
-rule-keeps net {s} v (hears p m k shown a b e) = subst (λ (w : Visible). Invariant net (noting s (record { tx = m .tx; key = k; shown = shown }) w)) (sym e) (hears-keeps net s p m k shown v a b)
+rule-keeps net {s} v (receives p m k shown a b e) = subst (λ (w : Visible). Invariant net (noting s (record { tx = m .tx; key = k; shown = shown }) w)) (sym e) (receives-keeps net s p m k shown v a b)
 rule-keeps net {s} v (agrees p m lines r b n e) = subst (λ (w : Visible). Invariant net (on s w)) (sym e) (agrees-keeps net s p m lines v r b (unopposed net (s .vis) m lines n))
 rule-keeps net {s} v (objects p m lines k r b y e) = subst (λ (w : Visible). Invariant net (on s w)) (sym e) (let o = opposed net (s .vis) m lines k y in objects-keeps net s p m lines k v r b (o .0) (o .1))
 rule-keeps net {s} v (counts p m named r b l e) = subst (λ (w : Visible). Invariant net (on s w)) (sym e) (counts-keeps net s p m named v r b)
 rule-keeps net {s} v (grants p m named r b l q e) = subst (λ (w : Visible). Invariant net (placing s (placement (s .vis) (m .tx)) w)) (sym e) (grants-keeps net s p m named v r b l q)
 rule-keeps net {s} v (refuses p m named k r b l q e) = subst (λ (w : Visible). Invariant net (on s w)) (sym e) (refuses-keeps net s p m named k v r b l q)
 rule-keeps net {s} v (takes-in p m n lines r b l e) = subst (λ (w : Visible). Invariant net (on s w)) (sym e) (takes-in-keeps net s p m n lines v r b l)
-rule-keeps net {s} v (lets-go p m a b e) = subst (λ (w : Visible). Invariant net (on s w)) (sym e) (lets-go-keeps net s p m v a b)
+rule-keeps net {s} v (releases p m a b e) = subst (λ (w : Visible). Invariant net (on s w)) (sym e) (releases-keeps net s p m v a b)
 
 pub new-holds : (net : Net) → Invariant net first
 new-holds net = record {
@@ -108,15 +108,15 @@ settled-seen net s v st k E h = go (cases-eq (net .home k) (E .origin)) (cases-b
         (v .outcomes .coming E (net .home k) h (net .housed k) q (λ u. omega (arith, u, leb-false _ _ b))) refl)
 
 -- a draft of an intent is a draft of a shut record
-pub intent-drafted : (r : Record) (k : ℕ) → Drafted (intent r .drafts) k → (shut (r .phase) ≡ true) × Drafted (r .drafts) k
-intent-drafted r k d = elim (cases-bool (shut (r .phase))) [
+pub intent-drafted : (r : Record) (k : ℕ) → Drafted (intent r .drafts) k → (has-closed (r .phase) ≡ true) × Drafted (r .drafts) k
+intent-drafted r k d = elim (cases-bool (has-closed (r .phase))) [
   | inl e ↦ (e, subst (λ (x : Intent). Drafted (x .drafts) k) (intent-shut r e) d)
   | inr e ↦ absurd (no-intent r k e d)
 ]
 
 refused-for : (net : Net) (s : State) (i : ℕ) (k : Objection) → s .vis .records i .phase ≡ Refused → s .vis .records i .named ≡ Some k → Justified net (intents (s .vis .records)) (s .placed) (s .vis .book) i (k .key) → Refused-for net s i k
 refused-for net s i k c n g =
-    let is = intent-shut (s .vis .records i) (ap shut c) in
+    let is = intent-shut (s .vis .records i) (ap has-closed c) in
     record {
       named = n;
       drafted = intent-drafted (s .vis .records i) (k .key) (g .drafted) .1;
@@ -144,5 +144,5 @@ facts-stand net h s r =
       books = λ st k. v .books k ∙ taken-all (s .vis .clocks (net .home k)) (s .placed) k (settled-seen net s v st k);
       seen = λ E T k. before-seen (s .placed) E T k (v .order .ordered);
       shown = λ d l. rw (v .reads .shown d l) (shown-right (s .placed) (s .vis .records (d .tx) .bound) (d .key) (v .order .numbered));
-      refused = λ i c. let n = v .refusals .refused i c in (n .0, refused-for net s i (n .0) c (n .1) (v .refusals .named i (n .0) (ap shut c) (n .1)));
+      refused = λ i c. let n = v .refusals .refused i c in (n .0, refused-for net s i (n .0) c (n .1) (v .refusals .named i (n .0) (ap has-closed c) (n .1)));
     }

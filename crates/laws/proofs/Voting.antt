@@ -17,11 +17,11 @@ use Rattle.tables.specs.declared.Phase.the-variants.{Waiting, Closing, Granted,
 use Rattle.messages.specs.declared.Objection.{Objection}
 use Rattle.laws.proofs.Conflicts.{Conflicts, taken-by, newer, full, either-cases, either-none}
 use Rattle.laws.specs.Lists.{put, In, At, without, either}
-use Rattle.laws.specs.Net.{Clock, Record, prepare, vote, refused, Message, Placement, Net, _⊑_, Drafted, taken, Seen, seen, inside, newest, shut}
+use Rattle.laws.specs.Net.{Clock, Record, prepare, vote, refused, Message, Placement, Net, _⊑_, Drafted, taken, Seen, seen, inside, newest, has-closed}
 use Rattle.laws.proofs.Model.{State, on}
-use Rattle.laws.specs.Rules.{Ripe, asked, closed, counted, let-go, refusing, voted}
+use Rattle.laws.specs.Rules.{Ripe, asked, closed, counted, released, refusing, voted}
 use Rattle.laws.specs.State.{holding}
-use Rattle.laws.specs.Words.{voting, letter, unless-none, holds-of, homed, freed, refused-to, refusals-to}
+use Rattle.laws.specs.Words.{voting, message, unless-none, holds-of, homed, freed, refused-to, refusals-to}
 use Rattle.laws.proofs.Lists.{put-same, put-other, put-case, in-left, in-right, in-append, in-at, in-without, in-rest, tally-append, tally-at, none-left}
 use Rattle.laws.proofs.Placed.{Closed, By, newest-covers, newest-by}
 use Rattle.laws.proofs.Invariant.{Intent, intent, Intents, intents, is-read, is-ballot, is-granted, polled, reads, ballots, Holds, Holders, Ballot, Votes, Rival, Justified, Invariant}
@@ -109,7 +109,7 @@ agrees-holders net s p m lines v ripe e none =
     let P = s .placed in
     let g = v .holders in
     let wants : (k : ℕ) → Drafted lines k → Drafted (r .drafts) k = λ k d. homed-drafted net (m .to) (r .drafts) k (subst (λ ds. Drafted ds k) (b .lines lines e) d) .0 in
-    let is : intent r ≡ record { bound = r .bound; drafts = r .drafts } = intent-shut r (ap shut (b .closing)) in
+    let is : intent r ≡ record { bound = r .bound; drafts = r .drafts } = intent-shut r (ap has-closed (b .closing)) in
     let alone : (k j : ℕ) → Drafted lines k → Holds (s .vis .held) k j → j ≡ i = λ k j d h. elim (cases-eq j i) [ inl q ↦ q | inr n ↦ absurd (none k d (taken-by (h .0) (h .1) (h .2) (λ q. n (sym (h .3) ∙ q)))) ] in
     record {
       meant = λ k j h. elim (holds-cases (s .vis .held) i (m .from) lines k j h) [
@@ -141,7 +141,7 @@ agrees-keeps net s p m lines v ripe e none =
     let rs = s .vis .records in
     let rest = without (s .vis .air) p in
     let held′ = s .vis .held ++ holds-of (m .tx) (m .from) lines in
-    let q = letter (m .tx) (m .to) (m .from) (m .bound) (vote None) in
+    let q = message (m .tx) (m .to) (m .from) (m .bound) (vote None) in
     let b = v .votes .sound m (in-at (s .vis .air) p m a) (ap is-ballot e) in
     record {
       order = v .order;
@@ -180,7 +180,7 @@ conflict-cause net s m k v c b l d x = record { drafted = rw is d; cause = go x 
     r = s .vis .records (m .tx)
 
     is : intent r ≡ record { bound = r .bound; drafts = r .drafts }
-    is = intent-shut r (ap shut c)
+    is = intent-shut r (ap has-closed c)
 
     bound-is : intent r .bound ≡ m .bound
     bound-is = ap (λ (x : Intent). x .bound) is ∙ sym b
@@ -219,7 +219,7 @@ objects-keeps net s p m lines k v ripe e d x =
     let P = s .placed in
     let rs = s .vis .records in
     let rest = without (s .vis .air) p in
-    let q = letter (m .tx) (m .to) (m .from) (m .bound) (vote (Some k)) in
+    let q = message (m .tx) (m .to) (m .from) (m .bound) (vote (Some k)) in
     let b = v .votes .sound m (in-at (s .vis .air) p m a) (ap is-ballot e) in
     let at-home = homed-drafted net (m .to) (rs (m .tx) .drafts) (k .key) (subst (λ ds. Drafted ds (k .key)) (b .lines lines e) d) in
     let why : Justified net (intents rs) P (s .vis .book) (m .tx) (k .key) =
@@ -268,7 +268,7 @@ ballots-other i air p m a t =
 named-cause : (net : Net) (s : State) (m : Message) (named : Option Objection) (k : Objection) → Invariant net s → In m (s .vis .air) → m .body ≡ vote named → s .vis .records (m .tx) .phase ≡ Closing → either (s .vis .records (m .tx) .named) named ≡ Some k →
     Justified net (intents (s .vis .records)) (s .placed) (s .vis .book) (m .tx) (k .key)
 named-cause net s m named k v h e c q = elim (either-cases (s .vis .records (m .tx) .named) named k q) [
-  | inl f ↦ v .refusals .named (m .tx) k (ap shut c) f
+  | inl f ↦ v .refusals .named (m .tx) k (ap has-closed c) f
   | inr f ↦ v .refusals .voted m k h (e ∙ ap vote (f .1))
 ]
 
@@ -320,7 +320,7 @@ counts-keeps net s p m named v ripe e =
     let rs = put (s .vis .records) i r in
     let rest = without (s .vis .air) p in
     let c : old .phase ≡ Closing = v .votes .sound m h (ap is-ballot e) .closing in
-    let same = same-put (s .vis .records) i r (inr (sym (intent-shut old (ap shut c)))) in
+    let same = same-put (s .vis .records) i r (inr (sym (intent-shut old (ap has-closed c)))) in
     record {
       order = v .order;
       clocks = v .clocks;
@@ -407,7 +407,7 @@ refuses-keeps net s p m named k v ripe e one q =
     let each = each-refusal net i old (net .towers) in
     let now : rs i ≡ r = put-same (s .vis .records) i r i refl in
     let c : old .phase ≡ Closing = v .votes .sound m h (ap is-ballot e) .closing in
-    let same = same-put (s .vis .records) i r (inr (sym (intent-shut old (ap shut c)))) in
+    let same = same-put (s .vis .records) i r (inr (sym (intent-shut old (ap has-closed c)))) in
     record {
       order = v .order;
       clocks = v .clocks;
@@ -433,8 +433,8 @@ refuses-keeps net s p m named k v ripe e one q =
           (refusals-landed net P (s .vis .records) (s .vis .book) (s .vis .air) p (v .refusals)));
     }
 
-pub lets-go-keeps : (net : Net) (s : State) (p : ℕ) (m : Message) → Invariant net s → At (s .vis .air) p m → m .body ≡ refused → Invariant net (on s (let-go net (s .vis) p m))
-lets-go-keeps net s p m v a e =
+pub releases-keeps : (net : Net) (s : State) (p : ℕ) (m : Message) → Invariant net s → At (s .vis .air) p m → m .body ≡ refused → Invariant net (on s (released net (s .vis) p m))
+releases-keeps net s p m v a e =
     let P = s .placed in
     let i = m .tx in
     let o : s .vis .records i .phase ≡ Refused = v .votes .over m (in-at (s .vis .air) p m a) e in

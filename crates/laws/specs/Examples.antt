@@ -7,7 +7,7 @@ use Rattle.std.specs.declared.option.Option.the-variants.{Some, None}
 use Rattle.clocks.specs.Clocks.{Covers, Within}
 use Rattle.clocks.specs.declared.Version.{Version}
 use Rattle.laws.specs.Net.{granted, Message, newest-within, content-of}
-use Rattle.laws.specs.Words.{letter}
+use Rattle.laws.specs.Words.{message}
 use Rattle.laws.specs.Faults.{ripe}
 use Rattle.laws.specs.Further.{Always, Both-granted}
 use Rattle.laws.specs.View.{clock-of}
@@ -21,7 +21,7 @@ two-versions =
 
 -- a granted outcome of origin 0 with bound 1,0 and this number, to tower 1
 abbrev pub outcome : ℕ → Message
-outcome number = letter 0 0 1 (clock-of (1 ∷ 0 ∷ [])) (granted number [])
+outcome number = message 0 0 1 (clock-of (1 ∷ 0 ∷ [])) (granted number [])
 
 pub record Examples : Type 0 where
   -- clock 2,1 covers 2,0 and does not cover 0,2

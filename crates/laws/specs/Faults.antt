@@ -14,7 +14,7 @@ use Rattle.messages.specs.declared.Objection.{Objection}
 use Rattle.tables.specs.declared.Phase.{Phase}
 use Rattle.tables.specs.declared.Phase.the-variants.{Open, Waiting, Closing, Granted, Refused, Dropped}
 use Rattle.tables.specs.declared.Call.{Call}
-use Rattle.tables.specs.declared.Call.the-variants.{Begin, Read, Draft as Write, Close, Drop as Abandon, Deliver}
+use Rattle.tables.specs.declared.Call.the-variants.{Begin, Read, Draft as DraftCall, Close, Drop as DropCall, Deliver}
 use Rattle.laws.specs.Lists.{without, either}
 use Rattle.laws.specs.Net.{Clock, Body, query, answer, prepare, vote, granted, refused, Message, Net}
 use Rattle.laws.specs.Words.{draft-of, redrafted, prepares, grants-to, refusals-to}
@@ -97,7 +97,7 @@ module _ (net : Net) (v : Visible) where
   abbrev pub first-fault : Call → Option Cause
   first-fault (Begin t) = unless (ltb t (net .towers)) Tower (unless (ltb (v .begun) (net .transactions)) Full None)
   first-fault (Read i k) = unless-open i (unless (ltb k (net .keys)) Key (read-fault (draft-of k (v .records i .drafts))))
-  first-fault (Write i k x) = unless-open i (unless (ltb k (net .keys)) Key (unless (leb (length (redrafted k x (v .records i .drafts))) (net .most)) TooMany None))
+  first-fault (DraftCall i k x) = unless-open i (unless (ltb k (net .keys)) Key (unless (leb (length (redrafted k x (v .records i .drafts))) (net .most)) TooMany None))
   first-fault (Close i) = unless-open i (close-fault i (v .records i .drafts))
-  first-fault (Abandon i) = unless-open i None
+  first-fault (DropCall i) = unless-open i None
   first-fault (Deliver p) = message-fault p (nth (v .air) p)

@@ -15,7 +15,7 @@ use Rattle.messages.specs.declared.Conflict.the-variants.{Held as HeldBy, Newer
 use Rattle.tables.specs.declared.Reading.{Reading}
 use Rattle.tables.specs.declared.Held.{Held}
 use Rattle.tables.specs.declared.Call.{Call}
-use Rattle.tables.specs.declared.Call.the-variants.{Begin, Read, Draft as Write, Close, Drop as Abandon, Deliver}
+use Rattle.tables.specs.declared.Call.the-variants.{Begin, Read, Draft as DraftCall, Close, Drop as DropCall, Deliver}
 use Rattle.tables.specs.declared.Told.{Told}
 use Rattle.laws.specs.Lists.{In}
 use Rattle.laws.specs.Net.{Clock, Record, Body, query, answer, prepare, vote, granted, refused, Message, Net}
@@ -93,11 +93,11 @@ pub record In-range (net : Net) (ok : Content → Bool) (v : Visible) : Type 0 w
 
 -- every content that was to be drafted passes a test
 abbrev pub Call-ok : (Content → Bool) → Call → Type 0
-Call-ok ok (Write i k x) = ok x ≡ true
+Call-ok ok (DraftCall i k x) = ok x ≡ true
 Call-ok ok (Begin t) = Unit {0}
 Call-ok ok (Read i k) = Unit {0}
 Call-ok ok (Close i) = Unit {0}
-Call-ok ok (Abandon i) = Unit {0}
+Call-ok ok (DropCall i) = Unit {0}
 Call-ok ok (Deliver p) = Unit {0}
 
 abbrev pub Calls-ok : (Content → Bool) → List Event → Type 0

@@ -16,7 +16,7 @@ use Rattle.tables.specs.declared.Told.{Told}
 use Rattle.tables.specs.declared.Phase.{Phase}
 use Rattle.tables.specs.declared.Phase.the-variants.{Waiting, Closing, Granted, Refused}
 use Rattle.laws.specs.Lists.{In, At, tally, either}
-use Rattle.laws.specs.Net.{Body, query, answer, prepare, vote, granted, refused, Message, Net, _⊑_, Drafted, shut, ballots, is-ballot, owed-of}
+use Rattle.laws.specs.Net.{Body, query, answer, prepare, vote, granted, refused, Message, Net, _⊑_, Drafted, has-closed, ballots, is-ballot, pending-of}
 use Rattle.laws.specs.Words.{Event}
 use Rattle.laws.specs.History.{placedIn, begunIn, placedBeforeIn, originIn, draftsIn, numberIn, placeIn, from-one, Within, Outside}
 use Rattle.laws.specs.State.{Visible}
@@ -32,16 +32,16 @@ pub record Causally-closed (net : Net) (h : List Event) (v : Visible) : Type 0 w
   pub bounds : (x y : ℕ) → Within h x (v .records y .bound) → v .records x .bound ⊑ v .records y .bound
 
 -- a granted outcome of x to the tower t is in the air
-abbrev pub Outcome-flies : Visible → ℕ → ℕ → Type 0
-Outcome-flies v x t = (m : Message) × (n : ℕ) × (ls : List Draft) × In m (v .air) × (m .tx ≡ x) × (m .to ≡ t) × (m .body ≡ granted n ls)
+abbrev pub Outcome-pending : Visible → ℕ → ℕ → Type 0
+Outcome-pending v x t = (m : Message) × (n : ℕ) × (ls : List Draft) × In m (v .air) × (m .tx ≡ x) × (m .to ≡ t) × (m .body ≡ granted n ls)
 
 -- a tower lacks a placed transaction exactly while its outcome to that tower is in the air
 pub record Accounted (net : Net) (h : List Event) (v : Visible) : Type 0 where
   pub own : (x : ℕ) → In x (placedIn h) → Within h x (v .clocks (originIn h x))
-  pub lacking : (x t : ℕ) → In x (placedIn h) → t < net .towers → t ≢ originIn h x → Outside h x (v .clocks t) → Outcome-flies v x t
-  pub flying : (x t : ℕ) → Outcome-flies v x t → In x (placedIn h) × (t ≢ originIn h x) × Outside h x (v .clocks t)
+  pub lacking : (x t : ℕ) → In x (placedIn h) → t < net .towers → t ≢ originIn h x → Outside h x (v .clocks t) → Outcome-pending v x t
+  pub pending : (x t : ℕ) → Outcome-pending v x t → In x (placedIn h) × (t ≢ originIn h x) × Outside h x (v .clocks t)
   -- what a clock says of a tower, and the outcomes of that tower's on their way, are all that the tower placed
-  pub balance : (t o : ℕ) → t < net .towers → v .clocks t o + tally (owed-of o t) (v .air) ≡ tally (λ i. eqb (originIn h i) o) (placedIn h)
+  pub balance : (t o : ℕ) → t < net .towers → v .clocks t o + tally (pending-of o t) (v .air) ≡ tally (λ i. eqb (originIn h i) o) (placedIn h)
 
 -- every version in a list is within the clock of the key's home
 abbrev pub Versions-within-clock : Net → List Event → Visible → Type 0
@@ -131,9 +131,9 @@ pub record Two-alone (net : Net) (h : List Event) (v : Visible) : Type 0 where
   pub first-drafts : draftsIn h 0 ≡ first ∷ []
   pub second-drafts : draftsIn h 1 ≡ second ∷ []
   pub apart : first .key ≢ second .key
-  pub first-closed : shut (v .records 0 .phase) ≡ true
-  pub second-closed : shut (v .records 1 .phase) ≡ true
-  pub silence : v .air ≡ []
+  pub first-closed : has-closed (v .records 0 .phase) ≡ true
+  pub second-closed : has-closed (v .records 1 .phase) ≡ true
+  pub air-empty : v .air ≡ []
 
 abbrev pub Both-granted : Net → List Event → Visible → Type 0
 Both-granted net h v = Two-alone net h v → (v .records 0 .phase ≡ Granted) × (v .records 1 .phase ≡ Granted)

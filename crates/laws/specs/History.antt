@@ -12,7 +12,7 @@ use Rattle.clocks.specs.declared.Content.{Content}
 use Rattle.clocks.specs.declared.Version.{Version}
 use Rattle.messages.specs.declared.Draft.{Draft}
 use Rattle.tables.specs.declared.Call.{Call}
-use Rattle.tables.specs.declared.Call.the-variants.{Begin, Read, Draft as Write, Close, Drop as Abandon, Deliver}
+use Rattle.tables.specs.declared.Call.the-variants.{Begin, Read, Draft as DraftCall, Close, Drop as DropCall, Deliver}
 use Rattle.tables.specs.declared.Told.{Told}
 use Rattle.tables.specs.declared.Told.the-variants.{Begun, Own, Sent, Drafts, ReadOnly, Dropped as ToldDropped, Queried, Shown, Prepared, Awaiting, Placed, Refused as ToldRefused, Ended, Fault}
 use Rattle.laws.specs.Lists.{In, tally}
@@ -112,9 +112,9 @@ placedBeforeIn (e ∷ h) y = before-by (note (e .told)) y (placedIn h) (placedBe
 abbrev pub tower-of : Call → ℕ → ℕ
 tower-of (Begin t) o = t
 tower-of (Read i k) o = o
-tower-of (Write i k x) o = o
+tower-of (DraftCall i k x) o = o
 tower-of (Close i) o = o
-tower-of (Abandon i) o = o
+tower-of (DropCall i) o = o
 tower-of (Deliver p) o = o
 
 abbrev pub origin-by : Call → Note → ℕ → ℕ → ℕ
@@ -134,9 +134,9 @@ originIn (e ∷ h) i = origin-by (e .call) (note (e .told)) i (originIn h i)
 abbrev pub drafted-by : Call → ℕ → List Draft → List Draft
 drafted-by (Begin t) i ds = ds
 drafted-by (Read j k) i ds = ds
-drafted-by (Write j k x) i ds = cond (eqb j i) (redrafted k x ds) ds
+drafted-by (DraftCall j k x) i ds = cond (eqb j i) (redrafted k x ds) ds
 drafted-by (Close j) i ds = ds
-drafted-by (Abandon j) i ds = ds
+drafted-by (DropCall j) i ds = ds
 drafted-by (Deliver p) i ds = ds
 
 abbrev pub draftsIn : List Event → ℕ → List Draft
@@ -187,15 +187,15 @@ versions-of h (i ∷ is) k = versions-of h is k ++ written i (originIn h i) (num
 abbrev pub versionsIn : List Event → ℕ → List Version
 versionsIn h k = versions-of h (placedIn h) k
 
--- ## The reads over the radio
+-- ## The reads that were answered
 
 -- an answer delivered: the content told, or blank
-pub record Heard : Type 0 where
+pub record Received : Type 0 where
   pub tx : ℕ
   pub key : ℕ
   pub content : Option Content
 
-abbrev pub read-by : Note → List Heard → List Heard
+abbrev pub read-by : Note → List Received → List Received
 read-by (is-begun i) l = l
 read-by (is-shown i k x) l = l ++ record { tx = i; key = k; content = x } ∷ []
 read-by (is-placed i p) l = l
@@ -203,6 +203,6 @@ read-by is-other l = l
 read-by is-fault l = l
 
 -- the oldest first
-abbrev pub readsIn : List Event → List Heard
+abbrev pub readsIn : List Event → List Received
 readsIn [] = []
 readsIn (e ∷ h) = read-by (note (e .told)) (readsIn h)

@@ -138,13 +138,13 @@ writer-of (Some x) = Some (x .writer)
 writer-of None = None
 
 -- a transaction has asked for its grant
-abbrev pub shut : Phase → Bool
-shut Open = false
-shut Waiting = false
-shut Closing = true
-shut Granted = true
-shut Refused = true
-shut Dropped = false
+abbrev pub has-closed : Phase → Bool
+has-closed Open = false
+has-closed Waiting = false
+has-closed Closing = true
+has-closed Granted = true
+has-closed Refused = true
+has-closed Dropped = false
 
 -- ## Messages
 
@@ -170,5 +170,5 @@ abbrev pub ballots : ℕ → List Message → ℕ
 ballots i air = tally (λ m. eqb (m .tx) i && is-ballot (m .body)) air
 
 -- a granted outcome of this tower's, to that tower
-abbrev pub owed-of : ℕ → ℕ → Message → Bool
-owed-of o t m = eqb (m .from) o && (eqb (m .to) t && is-granted (m .body))
+abbrev pub pending-of : ℕ → ℕ → Message → Bool
+pending-of o t m = eqb (m .from) o && (eqb (m .to) t && is-granted (m .body))

@@ -9,9 +9,9 @@ use Rattle.std.specs.declared.option.Option.{Option}
 use Rattle.std.specs.declared.option.Option.the-variants.{Some, None}
 use Rattle.laws.specs.Lists.{put, At, either}
 use Rattle.laws.specs.Net.{Clock, query, answer, prepare, vote, granted, refused, Message, Net, _⊑_, newest-within, content-of, writer-of}
-use Rattle.laws.specs.State.{Visible, amended, sent, landed, holding, took-in, read, placing, new, granted-record, placement}
+use Rattle.laws.specs.State.{Visible, amended, sent, removed, holding, took-in, read, placing, new, granted-record, placement}
 use Rattle.laws.specs.Faults.{first-fault}
-use Rattle.laws.specs.Words.{draft-of, opened, in-phase, drafting, reading-at, voting, letter, redrafted, holds-of, conflict-at, first-objection, homed, freed, prepares, grants-to, refusals-to, Event}
+use Rattle.laws.specs.Words.{draft-of, opened, in-phase, drafting, reading-at, voting, message, redrafted, holds-of, conflict-at, first-objection, homed, freed, prepares, grants-to, refusals-to, Event}
 use Rattle.clocks.specs.declared.Version.{Version}
 use Rattle.messages.specs.declared.Draft.{Draft}
 use Rattle.messages.specs.Table.{conflictMark}
@@ -20,7 +20,7 @@ use Rattle.faults.specs.declared.Cause.{Cause}
 use Rattle.messages.specs.declared.Objection.{Objection}
 use Rattle.tables.specs.declared.Phase.the-variants.{Open, Waiting, Closing, Granted, Refused, Dropped}
 use Rattle.tables.specs.declared.Call.{Call}
-use Rattle.tables.specs.declared.Call.the-variants.{Begin, Read, Draft as Write, Close, Drop as Abandon, Deliver}
+use Rattle.tables.specs.declared.Call.the-variants.{Begin, Read, Draft as DraftCall, Close, Drop as DropCall, Deliver}
 use Rattle.tables.specs.declared.Told.{Told}
 use Rattle.tables.specs.declared.Told.the-variants.{Begun, Own, Sent, Drafts, ReadOnly, Dropped as ToldDropped, Queried, Shown, Prepared, Awaiting, Placed, Refused as ToldRefused, Ended, Fault}
 
@@ -33,7 +33,7 @@ module _ (net : Net) where
   abbrev pub asked : Visible → ℕ → ℕ → Visible
   asked v i k =
       let r = v .records i in
-      sent (amended v i (in-phase Waiting r)) (letter i (r .origin) (net .home k) (r .bound) (query k (not (r .answered))) ∷ [])
+      sent (amended v i (in-phase Waiting r)) (message i (r .origin) (net .home k) (r .bound) (query k (not (r .answered))) ∷ [])
 
   abbrev pub closed : Visible → ℕ → Visible
   closed v i =
@@ -45,22 +45,22 @@ module _ (net : Net) where
   abbrev pub replied : Visible → ℕ → Message → ℕ → Bool → Visible
   replied v p m k first =
       let c : Clock = cond first (v .clocks (m .to)) (m .bound) in
-      sent (landed v p) (letter (m .tx) (m .to) (m .from) c (answer k (newest-within c (v .book k))) ∷ [])
+      sent (removed v p) (message (m .tx) (m .to) (m .from) c (answer k (newest-within c (v .book k))) ∷ [])
 
   -- .. an answer
-  abbrev pub heard : Visible → ℕ → Message → ℕ → Option Version → Visible
-  heard v p m k shown =
-      read (amended (landed v p) (m .tx) (reading-at (m .bound) (v .records (m .tx)))) (record { tx = m .tx; key = k; writer = writer-of shown })
+  abbrev pub received : Visible → ℕ → Message → ℕ → Option Version → Visible
+  received v p m k shown =
+      read (amended (removed v p) (m .tx) (reading-at (m .bound) (v .records (m .tx)))) (record { tx = m .tx; key = k; writer = writer-of shown })
 
   -- .. a prepare
   abbrev pub voted : Visible → ℕ → Message → Option Objection → Visible
-  voted v p m named = sent (landed v p) (letter (m .tx) (m .to) (m .from) (m .bound) (vote named) ∷ [])
+  voted v p m named = sent (removed v p) (message (m .tx) (m .to) (m .from) (m .bound) (vote named) ∷ [])
 
   -- .. a vote, and not the last
   abbrev pub counted : Visible → ℕ → Message → Option Objection → Visible
   counted v p m named =
       let r = v .records (m .tx) in
-      amended (landed v p) (m .tx) (voting Closing (pred (r .awaited)) (either (r .named) named) r)
+      amended (removed v p) (m .tx) (voting Closing (pred (r .awaited)) (either (r .named) named) r)
 
   -- .. the last vote, and none was a no
   abbrev pub granting : Visible → ℕ → Message → Visible
@@ -68,7 +68,7 @@ module _ (net : Net) where
       let i = m .tx in
       let o = v .records i .origin in
       let T = placement v i in
-      sent (holding (took-in (placing (amended (landed v p) i (granted-record v i))) o i o (T .number) (homed net o (T .drafts))) (freed net i o (v .held)))
+      sent (holding (took-in (placing (amended (removed v p) i (granted-record v i))) o i o (T .number) (homed net o (T .drafts))) (freed net i o (v .held)))
       (grants-to net T (net .towers))
 
   -- .. the last vote, and one was a no
@@ -76,16 +76,16 @@ module _ (net : Net) where
   refusing v p m against =
       let i = m .tx in
       let r = voting Refused 0 (Some against) (v .records i) in
-      sent (holding (amended (landed v p) i r) (freed net i (r .origin) (v .held))) (refusals-to net i (v .records i) (net .towers))
+      sent (holding (amended (removed v p) i r) (freed net i (r .origin) (v .held))) (refusals-to net i (v .records i) (net .towers))
 
   -- .. a granted outcome
   abbrev pub took : Visible → ℕ → Message → ℕ → List Draft → Visible
   took v p m n lines =
-      holding (took-in (landed v p) (m .to) (m .tx) (m .from) n lines) (freed net (m .tx) (m .to) (v .held))
+      holding (took-in (removed v p) (m .to) (m .tx) (m .from) n lines) (freed net (m .tx) (m .to) (v .held))
 
   -- .. a refused outcome
-  abbrev pub let-go : Visible → ℕ → Message → Visible
-  let-go v p m = holding (landed v p) (freed net (m .tx) (m .to) (v .held))
+  abbrev pub released : Visible → ℕ → Message → Visible
+  released v p m = holding (removed v p) (freed net (m .tx) (m .to) (v .held))
 
   -- what a home has against the lines of a prepare
   abbrev pub objection : Visible → Message → List Draft → Option Objection
@@ -101,22 +101,22 @@ module _ (net : Net) where
   pub data Rule (v v′ : Visible) : Call → Told → Type 0 where
     begins : (t : ℕ) → t < net .towers → v .begun < net .transactions →
         v′ ≡ begun-at v t → Rule v v′ (Begin t) (Begun (v .begun))
-    looks : (i k : ℕ) (d : Draft) → v .records i .phase ≡ Open → draft-of k (v .records i .drafts) ≡ Some d →
+    reads-own : (i k : ℕ) (d : Draft) → v .records i .phase ≡ Open → draft-of k (v .records i .drafts) ≡ Some d →
         v′ ≡ v → Rule v v′ (Read i k) (Own (d .content))
     asks : (i k : ℕ) → v .records i .phase ≡ Open → k < net .keys → draft-of k (v .records i .drafts) ≡ None →
         v′ ≡ asked v i k → Rule v v′ (Read i k) (Sent 1)
     drafts : (i k : ℕ) (x : Content) → v .records i .phase ≡ Open → k < net .keys → length (redrafted k x (v .records i .drafts)) ≤ net .most →
-        v′ ≡ amended v i (drafting (redrafted k x (v .records i .drafts)) (v .records i)) → Rule v v′ (Write i k x) (Drafts (length (redrafted k x (v .records i .drafts))))
+        v′ ≡ amended v i (drafting (redrafted k x (v .records i .drafts)) (v .records i)) → Rule v v′ (DraftCall i k x) (Drafts (length (redrafted k x (v .records i .drafts))))
     drops : (i : ℕ) → v .records i .phase ≡ Open →
-        v′ ≡ amended v i (in-phase Dropped (v .records i)) → Rule v v′ (Abandon i) (ToldDropped i)
+        v′ ≡ amended v i (in-phase Dropped (v .records i)) → Rule v v′ (DropCall i) (ToldDropped i)
     closes-empty : (i : ℕ) → v .records i .phase ≡ Open → v .records i .drafts ≡ [] →
         v′ ≡ amended v i (voting Granted 0 None (v .records i)) → Rule v v′ (Close i) ReadOnly
     closes : (i : ℕ) → v .records i .phase ≡ Open → v .records i .drafts ≢ [] →
         v′ ≡ closed v i → Rule v v′ (Close i) (Sent (length (prepares net i (v .records i) (net .towers))))
     replies : (p : ℕ) (m : Message) (k : ℕ) (first : Bool) → Ripe v p m → m .body ≡ query k first →
         v′ ≡ replied v p m k first → Rule v v′ (Deliver p) (Queried (m .tx))
-    hears : (p : ℕ) (m : Message) (k : ℕ) (shown : Option Version) → At (v .air) p m → m .body ≡ answer k shown →
-        v′ ≡ heard v p m k shown → Rule v v′ (Deliver p) (Shown (m .tx) k (content-of shown))
+    receives : (p : ℕ) (m : Message) (k : ℕ) (shown : Option Version) → At (v .air) p m → m .body ≡ answer k shown →
+        v′ ≡ received v p m k shown → Rule v v′ (Deliver p) (Shown (m .tx) k (content-of shown))
     agrees : (p : ℕ) (m : Message) (lines : List Draft) → Ripe v p m → m .body ≡ prepare lines → objection v m lines ≡ None →
         v′ ≡ holding (voted v p m None) (v .held ++ holds-of (m .tx) (m .from) lines) → Rule v v′ (Deliver p) (Prepared (m .tx) 0)
     objects : (p : ℕ) (m : Message) (lines : List Draft) (against : Objection) → Ripe v p m → m .body ≡ prepare lines → objection v m lines ≡ Some against →
@@ -129,8 +129,8 @@ module _ (net : Net) where
         v′ ≡ refusing v p m against → Rule v v′ (Deliver p) (ToldRefused (m .tx) (against .key))
     takes-in : (p : ℕ) (m : Message) (n : ℕ) (lines : List Draft) → Ripe v p m → m .body ≡ granted n lines → suc (v .clocks (m .to) (m .from)) ≡ n →
         v′ ≡ took v p m n lines → Rule v v′ (Deliver p) (Ended (m .tx) (m .to))
-    lets-go : (p : ℕ) (m : Message) → At (v .air) p m → m .body ≡ refused →
-        v′ ≡ let-go v p m → Rule v v′ (Deliver p) (Ended (m .tx) (m .to))
+    releases : (p : ℕ) (m : Message) → At (v .air) p m → m .body ≡ refused →
+        v′ ≡ released v p m → Rule v v′ (Deliver p) (Ended (m .tx) (m .to))
 
   -- ## A call is turned down, and nothing changes, or it is obeyed
 

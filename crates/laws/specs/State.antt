@@ -31,8 +31,8 @@ amended v i r = record { begun = v .begun; last = v .last; records = put (v .rec
 abbrev pub sent : Visible → List Message → Visible
 sent v ms = record { begun = v .begun; last = v .last; records = v .records; clocks = v .clocks; book = v .book; held = v .held; air = v .air ++ ms; readings = v .readings }
 
-abbrev pub landed : Visible → ℕ → Visible
-landed v p = record { begun = v .begun; last = v .last; records = v .records; clocks = v .clocks; book = v .book; held = v .held; air = without (v .air) p; readings = v .readings }
+abbrev pub removed : Visible → ℕ → Visible
+removed v p = record { begun = v .begun; last = v .last; records = v .records; clocks = v .clocks; book = v .book; held = v .held; air = without (v .air) p; readings = v .readings }
 
 abbrev pub holding : Visible → List Held → Visible
 holding v hs = record { begun = v .begun; last = v .last; records = v .records; clocks = v .clocks; book = v .book; held = hs; air = v .air; readings = v .readings }

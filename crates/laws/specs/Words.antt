@@ -46,8 +46,8 @@ placed-as i r = record { tx = i; origin = r .origin; number = r .number; bound =
 
 -- ## What is sent
 
-abbrev pub letter : ℕ → ℕ → ℕ → Clock → Body → Message
-letter i f t b body = record { tx = i; from = f; to = t; bound = b; body = body }
+abbrev pub message : ℕ → ℕ → ℕ → Clock → Body → Message
+message i f t b body = record { tx = i; from = f; to = t; bound = b; body = body }
 
 -- the first draft of the key is replaced, or one is added
 abbrev pub redrafted : ℕ → Content → List Draft → List Draft
@@ -107,13 +107,13 @@ module _ (net : Net) where
   freed i t hs = those (λ h. not (eqb (h .tx) i && eqb (net .home (h .key)) t)) hs
 
   abbrev pub prepare-to : ℕ → Record → ℕ → Message
-  prepare-to i r t = letter i (r .origin) t (r .bound) (prepare (homed t (r .drafts)))
+  prepare-to i r t = message i (r .origin) t (r .bound) (prepare (homed t (r .drafts)))
 
   abbrev pub granted-to : Placement → ℕ → Message
-  granted-to T t = letter (T .tx) (T .origin) t (T .bound) (granted (T .number) (homed t (T .drafts)))
+  granted-to T t = message (T .tx) (T .origin) t (T .bound) (granted (T .number) (homed t (T .drafts)))
 
   abbrev pub refused-to : ℕ → Record → ℕ → Message
-  refused-to i r t = letter i (r .origin) t (r .bound) refused
+  refused-to i r t = message i (r .origin) t (r .bound) refused
 
   -- one to each home of a drafted key, among the first n towers
   abbrev pub prepares : ℕ → Record → ℕ → List Message
