@@ -1,0 +1,12 @@
+pub mod Lists
+pub mod Net
+pub mod Words
+pub mod State
+pub mod Faults
+pub mod View
+pub mod History
+pub mod Rules
+pub mod Laws
+pub mod Further
+pub mod Frames
+pub mod Examples
