@@ -20,7 +20,7 @@ use Rattle.laws.specs.Lists.{put, In, At, without, either}
 use Rattle.laws.specs.Net.{Clock, Record, vote, granted, refused, Message, Placement, Net, _⊑_, Drafted, taken, count, Seen, seen, has-closed}
 use Rattle.laws.proofs.Model.{Answered, State, on, placing}
 use Rattle.laws.specs.Rules.{Ripe, asked, closed, granting, took, voted}
-use Rattle.laws.specs.Words.{voting, placed-as, homed, freed, granted-to, grants-to}
+use Rattle.laws.specs.Words.{placed-as, homed, freed, granted-to, grants-to}
 use Rattle.laws.proofs.Lists.{put-same, put-other, put-case, in-left, in-right, in-append, in-at, in-without, in-rest, none-left}
 use Rattle.laws.proofs.Placed.{Numbered, Ordered, Closed, count-self, count-grows, number-le, number-pos, new-unseen, shown-new, closed-new}
 use Rattle.laws.proofs.Invariant.{Intent, Intents, intents, is-read, is-ballot, is-granted, is-refused, polled, reads, ballots, Fair, Bounds, Books, Holds, Holders, Granteds, Reads, Outcomes, Justified, Refusals, Invariant}

@@ -22,11 +22,11 @@ pub mod Early
 pub mod Further
 pub mod Few
 pub mod Kept
-pub mod View
 pub mod Fits
 pub mod Carry
 pub mod Answering
 pub mod Determined
 pub mod Capacity
+pub mod View
 pub mod Examples
 mod Pair
