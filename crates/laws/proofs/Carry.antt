@@ -56,6 +56,6 @@ frames-carry net ok codec h f y r =
       shown = b .2;
       laws = laws-stand net h v (b .1);
       carried = λ bs q.
-      let x = in-frames net ok codec (v .air) bs (subst (λ (g : Framed). In bs (g .frames)) (b .2) q) in
-      (x .0, x .1, x .2, ap (codec .read-of) (x .2) ∙ codec .back (x .0) (numbers-in-range net h v (b .1) ok y .air (x .0) (x .1)));
+          let x = in-frames net ok codec (v .air) bs (subst (λ (g : Framed). In bs (g .frames)) (b .2) q) in
+          (x .0, x .1, x .2, ap (codec .read-of) (x .2) ∙ codec .back (x .0) (numbers-in-range net h v (b .1) ok y .air (x .0) (x .1)));
     }

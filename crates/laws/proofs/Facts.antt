@@ -12,7 +12,8 @@ use Rattle.messages.specs.declared.Draft.{Draft}
 use Rattle.tables.specs.declared.Phase.the-variants.{Granted, Refused}
 use Rattle.messages.specs.declared.Objection.{Objection}
 use Rattle.laws.specs.Lists.{In}
-use Rattle.laws.specs.Net.{Clock, Message, granted, Placement, Net, Drafted, versions, wrote, count, Seen, has-closed}
+use Rattle.laws.specs.Net.{Clock, Message, granted, Placement, Net, Drafted, has-closed}
+use Rattle.laws.proofs.Log.{versions, wrote, count, Seen}
 use Rattle.laws.proofs.Model.{Answered, Logged, State}
 use Rattle.laws.specs.Words.{Event, placed-as}
 

@@ -289,13 +289,13 @@ module _ (net : Net) (ok : Content → Bool) where
       let q = g .air m (in-at (v .air) p m (r .there)) in
       let f : Fit-body net ok (prepare lines) = subst (Fit-body net ok) b (q .body) in
       record {
-    begun = g .begun;
-    clocks = g .clocks;
-    records = g .records;
-    book = g .book;
-    held = tray-more (v .held) (holds-of (m .tx) (m .from) lines) (g .held) (holds-fit (m .tx) (m .from) lines (q .tx) (q .from) (f .0 .each));
-    air = answered-by (v .air) p m (m .bound) (vote None) (g .air) (r .there) (g .air m (in-at (v .air) p m (r .there)) .bound) tt;
-  })
+        begun = g .begun;
+        clocks = g .clocks;
+        records = g .records;
+        book = g .book;
+        held = tray-more (v .held) (holds-of (m .tx) (m .from) lines) (g .held) (holds-fit (m .tx) (m .from) lines (q .tx) (q .from) (f .0 .each));
+        air = answered-by (v .air) p m (m .bound) (vote None) (g .air) (r .there) (g .air m (in-at (v .air) p m (r .there)) .bound) tt;
+      })
   rule-fits {v} op sm y g (objects p m lines k r b x e) = subst (In-range net ok) (sym e) (
       let h = g .air m (in-at (v .air) p m (r .there)) in
       let f : Fit-body net ok (prepare lines) = subst (Fit-body net ok) b (h .body) in

@@ -15,7 +15,8 @@ use Rattle.tables.specs.declared.Phase.{Phase}
 use Rattle.tables.specs.declared.Phase.the-variants.{Open, Waiting, Closing, Granted, Refused, Dropped}
 use Rattle.messages.specs.declared.Objection.{Objection}
 use Rattle.laws.specs.Lists.{put, In, At, without, tally}
-use Rattle.laws.specs.Net.{Clock, Record, query, answer, vote, refused, Message, Placement, Net, Drafted, versions, newest-within, has-closed}
+use Rattle.laws.specs.Net.{Clock, Record, query, answer, vote, refused, Message, Placement, Net, Drafted, newest-within, has-closed}
+use Rattle.laws.proofs.Log.{versions}
 use Rattle.laws.proofs.Model.{Answered}
 use Rattle.laws.specs.Words.{placed-as, granted-to, freed}
 use Rattle.laws.proofs.Lists.{put-other, put-case, put-all, in-left, in-append, in-without, in-rest, in-those, those-in, tally-append, tally-at, tally-none}

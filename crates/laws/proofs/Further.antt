@@ -13,7 +13,8 @@ use Rattle.messages.specs.declared.Draft.{Draft}
 use Rattle.tables.specs.declared.Phase.{Phase}
 use Rattle.tables.specs.declared.Phase.the-variants.{Open, Waiting, Closing, Granted, Refused, Dropped}
 use Rattle.laws.specs.Lists.{In, tally}
-use Rattle.laws.specs.Net.{Clock, Record, Body, query, answer, prepare, vote, granted, refused, Message, Placement, Net, _⊑_, Drafted, wrote, versions, taken, Seen, seen, has-closed, ballots, is-ballot}
+use Rattle.laws.specs.Net.{Clock, Record, Body, query, answer, prepare, vote, granted, refused, Message, Placement, Net, _⊑_, Drafted, has-closed, ballots, is-ballot}
+use Rattle.laws.proofs.Log.{wrote, versions, taken, Seen, seen}
 use Rattle.laws.proofs.Model.{Logged, State, log-of}
 use Rattle.laws.specs.Words.{homed, granted-to, Event}
 use Rattle.laws.specs.History.{placedIn, begunIn, placedBeforeIn, originIn, draftsIn, Within, Outside}
@@ -73,8 +74,7 @@ module _ (net : Net) (h : List Event) (s : State) (v : Invariant net s) (l : Lin
       let E = y .0 in
       let here : In (granted-to net E t) (s .vis .air) = subst (λ (u : ℕ). In (granted-to net E u) (s .vis .air)) et (subst (λ (z : Message). In z (s .vis .air)) (y .2) q) in
       let tx : E .tx ≡ x = sym (ap (λ (z : Message). z .tx) (y .2)) ∙ ex in
-      let un : Seen E (s .vis .clocks t) → ⊥ = g .owed .unseen E t (y .1) here in
-      (
+      let un : Seen E (s .vis .clocks t) → ⊥ = g .owed .unseen E t (y .1) here in (
         subst (In x) (l .placed) (subst (λ (i : ℕ). In i (txs (s .placed))) tx (in-txs (s .placed) E (y .1))),
         (λ e. un (subst (λ (u : ℕ). Seen E (s .vis .clocks u)) (origin-is net h s v l E x (y .1) tx ∙ sym e) (own-seen E (y .1)))),
         outside-of net h s v l x (s .vis .clocks t) (λ F k e u. un (subst (λ (X : Placement). Seen X (s .vis .clocks t)) (one net h s v l F E k (y .1) (e ∙ sym tx)) u)),
@@ -83,14 +83,14 @@ module _ (net : Net) (h : List Event) (s : State) (v : Invariant net s) (l : Lin
   accounts : Accounted net h (s .vis)
   accounts = record {
     own = λ x q.
-    let y = placed-in x q in
-    let e = origin-is net h s v l (y .0) x (y .1) (y .2) in
-    subst (λ (i : ℕ). Within h i (s .vis .clocks (originIn h x))) (y .2) (within-of net h s v l (y .0) (y .1) (s .vis .clocks (originIn h x)) (subst (λ (o : ℕ). Seen (y .0) (s .vis .clocks o)) e (own-seen (y .0) (y .1))));
+        let y = placed-in x q in
+        let e = origin-is net h s v l (y .0) x (y .1) (y .2) in
+        subst (λ (i : ℕ). Within h i (s .vis .clocks (originIn h x))) (y .2) (within-of net h s v l (y .0) (y .1) (s .vis .clocks (originIn h x)) (subst (λ (o : ℕ). Seen (y .0) (s .vis .clocks o)) e (own-seen (y .0) (y .1))));
     lacking = λ x t q lt d o.
-    let y = placed-in x q in
-    let E = y .0 in
-    let c = v .outcomes .coming E t (y .1) lt (λ e. d (e ∙ origin-is net h s v l E x (y .1) (y .2))) (not-seen E x (s .vis .clocks t) (y .1) (y .2) o) in
-    (granted-to net E t, E .number, homed net t (E .drafts), c, y .2, refl, refl);
+        let y = placed-in x q in
+        let E = y .0 in
+        let c = v .outcomes .coming E t (y .1) lt (λ e. d (e ∙ origin-is net h s v l E x (y .1) (y .2))) (not-seen E x (s .vis .clocks t) (y .1) (y .2) o) in
+        (granted-to net E t, E .number, homed net t (E .drafts), c, y .2, refl, refl);
     pending = pending-is;
     balance = λ t o lt. g .owed .balance t o lt ∙ count-told h (s .placed) o (told-of net h s v l) ∙ ap (λ (is : List ℕ). tally (λ i. eqb (originIn h i) o) is) (l .placed);
   }
@@ -166,10 +166,10 @@ module _ (net : Net) (s : State) (v : Invariant net s) (g : More net s) where
     at-outcome = outcome-room;
     at-grant = λ p m named k a b o q d. held-room k (m .tx) (grants-holds net s p m named v a b o (either-none (s .vis .records (m .tx) .named) named q) k d);
     one-line = λ m n ls k q b.
-    let y = meant-for m n ls q b in
-    let E = y .0 in
-    let t : tally (λ d. eqb (d .key) k) (E .drafts) ≤ 1 = subst (λ (ds : List Draft). tally (λ d. eqb (d .key) k) ds ≤ 1) (sym (ap (λ (x : Placement). x .drafts) (v .granteds E (y .1) .1))) (g .tidy (E .tx) k) in
-    subst (λ (ds : List Draft). tally (λ d. eqb (d .key) k) ds ≤ 1) (sym (y .3)) (omega (arith, t, those-fewer (λ d. eqb (d .key) k) (λ d. eqb (net .home (d .key)) (m .to)) (E .drafts)));
+        let y = meant-for m n ls q b in
+        let E = y .0 in
+        let t : tally (λ d. eqb (d .key) k) (E .drafts) ≤ 1 = subst (λ (ds : List Draft). tally (λ d. eqb (d .key) k) ds ≤ 1) (sym (ap (λ (x : Placement). x .drafts) (v .granteds E (y .1) .1))) (g .tidy (E .tx) k) in
+        subst (λ (ds : List Draft). tally (λ d. eqb (d .key) k) ds ≤ 1) (sym (y .3)) (omega (arith, t, those-fewer (λ d. eqb (d .key) k) (λ d. eqb (net .home (d .key)) (m .to)) (E .drafts)));
     one-draft = g .tidy;
   }
 
@@ -271,8 +271,7 @@ both-run net h s r two =
     let v = run-holds net r in
     let l = run-linked net r in
     let only : (i : ℕ) (d : Draft) → draftsIn h i ≡ d ∷ [] → (j : ℕ) → Drafted (draftsIn h i) j → d .key ≡ j = λ i d e j q. elim (subst (λ (ds : List Draft). Drafted ds j) e q) [ inl x ↦ x | inr x ↦ absurd x ] in
-    let third : (j k : ℕ) → j ≢ 0 → j ≢ 1 → Drafted (draftsIn h j) k → ⊥ = λ j k a b. unbegun-drafts net h s v l j k (omega (arith, two .two, a, b)) in
-    (
+    let third : (j k : ℕ) → j ≢ 0 → j ≢ 1 → Drafted (draftsIn h j) k → ⊥ = λ j k a b. unbegun-drafts net h s v l j k (omega (arith, two .two, a, b)) in (
       alone-granted net h s v l r (two .one-deep) (two .air-empty) 0 (two .first .key) (two .first-closed) (λ j q. sym (only 0 (two .first) (two .first-drafts) j q)) (λ j n d. elim (cases-eq j 1) [
         | inl e ↦ two .apart (sym (only 1 (two .second) (two .second-drafts) (two .first .key) (subst (λ (i : ℕ). Drafted (draftsIn h i) (two .first .key)) e d)))
         | inr e ↦ third j (two .first .key) n e d

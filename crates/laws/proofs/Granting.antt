@@ -17,7 +17,8 @@ use Rattle.messages.specs.declared.Objection.{Objection}
 use Rattle.laws.proofs.Conflicts.{none-some, either-none}
 use Rattle.laws.specs.State.{granted-record, placement}
 use Rattle.laws.specs.Lists.{put, In, At, without, either}
-use Rattle.laws.specs.Net.{Clock, Record, vote, granted, refused, Message, Placement, Net, _⊑_, Drafted, taken, count, Seen, seen, has-closed}
+use Rattle.laws.specs.Net.{Clock, Record, vote, granted, refused, Message, Placement, Net, _⊑_, Drafted, has-closed}
+use Rattle.laws.proofs.Log.{taken, count, Seen, seen}
 use Rattle.laws.proofs.Model.{Answered, State, on, placing}
 use Rattle.laws.specs.Rules.{Ripe, asked, closed, granting, took, voted}
 use Rattle.laws.specs.Words.{placed-as, homed, freed, granted-to, grants-to}

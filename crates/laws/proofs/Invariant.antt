@@ -14,7 +14,8 @@ use Rattle.messages.specs.declared.Objection.{Objection}
 use Rattle.tables.specs.declared.Held.{Held}
 use Rattle.tables.specs.declared.Phase.the-variants.{Waiting, Closing, Granted, Refused}
 use Rattle.laws.specs.Lists.{In, tally}
-use Rattle.laws.specs.Net.{Clock, Record, Body, query, answer, prepare, vote, granted, refused, Message, Placement, Net, _⊑_, Drafted, versions, taken, count, Seen, newest-within, has-closed}
+use Rattle.laws.specs.Net.{Clock, Record, Body, query, answer, prepare, vote, granted, refused, Message, Placement, Net, _⊑_, Drafted, newest-within, has-closed}
+use Rattle.laws.proofs.Log.{versions, taken, count, Seen}
 use Rattle.laws.proofs.Model.{Answered, State}
 use Rattle.laws.specs.Words.{blank, placed-as, homed, granted-to}
 use Rattle.laws.proofs.Placed.{Numbered, Ordered, Closed}

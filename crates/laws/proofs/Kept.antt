@@ -139,10 +139,18 @@ module _ (net : Net) (s : State) (i : ℕ) (v : Invariant net s) (g : Kept net s
       ]
 
       go : (i ≡ j) ⊎ (i ≡ j → ⊥) → tally (prepare-of j t) (s .vis .air ++ asks-of) ≤ 1
-      go (inl q) = omega (arith, tally-append (prepare-of j t) (s .vis .air) asks-of, tally-none (prepare-of j t) (s .vis .air) (quiet q),
-          prepares-most net i (s .vis .records i) (prepare-of j t) t (λ u d. and-right (eqb i j) _ (and-left (eqb u t) _ (ne-eqb u t d))) (net .towers) .1)
-      go (inr d) = omega (arith, tally-append (prepare-of j t) (s .vis .air) asks-of, g .lone j t,
-          tally-none (prepare-of j t) asks-of (each-prepare net i (s .vis .records i) (net .towers) (λ x. prepare-of j t x ≡ false) (λ u. and-left (eqb i j) _ (ne-eqb i j d))))
+      go (inl q) = omega (
+        arith,
+        tally-append (prepare-of j t) (s .vis .air) asks-of,
+        tally-none (prepare-of j t) (s .vis .air) (quiet q),
+        prepares-most net i (s .vis .records i) (prepare-of j t) t (λ u d. and-right (eqb i j) _ (and-left (eqb u t) _ (ne-eqb u t d))) (net .towers) .1,
+      )
+      go (inr d) = omega (
+        arith,
+        tally-append (prepare-of j t) (s .vis .air) asks-of,
+        g .lone j t,
+        tally-none (prepare-of j t) asks-of (each-prepare net i (s .vis .records i) (net .towers) (λ x. prepare-of j t x ≡ false) (λ u. and-left (eqb i j) _ (ne-eqb i j d))),
+      )
 
   closes-unheld : Unheld net (s .vis .held) (s .vis .air ++ asks-of)
   closes-unheld m ls k h b q x = elim (in-append m (s .vis .air) asks-of h) [
@@ -369,8 +377,8 @@ agree net h s r =
       number = λ i. number-is net h s v l (run-places net r) i (s .vis .records i .place) refl;
       place = λ i. ap (place-of i) (sym (l .placed)) ∙ run-places net r .place i;
       placed = λ x q.
-      let y = placed-at (s .placed) x (subst (In x) (sym (l .placed)) q) in
-      subst (λ (i : ℕ). s .vis .records i .phase ≡ Granted) (y .2) (v .granteds (y .0) (y .1) .0);
+          let y = placed-at (s .placed) x (subst (In x) (sym (l .placed)) q) in
+          subst (λ (i : ℕ). s .vis .records i .phase ≡ Granted) (y .2) (v .granteds (y .0) (y .1) .0);
       granted = λ i c. elim (run-kept net r .won i c) [ inl e ↦ inl (sym (l .drafts i) ∙ e) | inr q ↦ inr (subst (In i) (l .placed) q) ];
     }
 

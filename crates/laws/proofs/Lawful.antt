@@ -15,7 +15,8 @@ use Rattle.tables.specs.declared.Phase.the-variants.{Granted, Dropped}
 use Rattle.messages.specs.declared.Objection.{Objection}
 use Rattle.tables.specs.declared.Reading.{Reading}
 use Rattle.laws.specs.Lists.{In, tally, last-of, either}
-use Rattle.laws.specs.Net.{Clock, Placement, Net, Drafted, versions, count, Seen, inside, newest-within}
+use Rattle.laws.specs.Net.{Clock, Placement, Net, Drafted, inside, newest-within}
+use Rattle.laws.proofs.Log.{versions, count, Seen}
 use Rattle.laws.proofs.Model.{Answered, State, log-of}
 use Rattle.laws.specs.Words.{Event}
 use Rattle.laws.proofs.Facts.{Facts, Before, Refused-for}
@@ -178,12 +179,15 @@ module _ (net : Net) (h : List Event) (s : State) (v : Invariant net s) (l : Lin
     named = c .named;
     drafted = rw (l .drafts i) at (c .drafted);
     cause = elim (c .cause) [
-      | inl x ↦ inl (x .0, record {
-        other = x .1 .other;
-        closed = x .1 .asked;
-        drafted = rw (l .drafts (x .0)) at (x .1 .drafted);
-        outside = outside-of (x .0) (s .vis .records i .bound) (x .1 .outside);
-      })
+      | inl x ↦ inl (
+        x .0,
+        record {
+          other = x .1 .other;
+          closed = x .1 .asked;
+          drafted = rw (l .drafts (x .0)) at (x .1 .drafted);
+          outside = outside-of (x .0) (s .vis .records i .bound) (x .1 .outside);
+        },
+      )
       | inr f ↦ inr f
     ];
   }
@@ -204,11 +208,11 @@ module _ (net : Net) (h : List Event) (s : State) (v : Invariant net s) (l : Lin
   lawful f = record {
     counted = l .counted;
     began = λ x g.
-    let r = placed-at (s .placed) x (subst (In x) (sym (l .placed)) g) in
-    subst (λ (n : ℕ). x < n) (l .begun) (subst (λ (i : ℕ). i < s .vis .begun) (r .2) (begun-phase net s (r .0 .tx) v (differ Granted Dropped refl (v .granteds (r .0) (r .1) .0))));
+        let r = placed-at (s .placed) x (subst (In x) (sym (l .placed)) g) in
+        subst (λ (n : ℕ). x < n) (l .begun) (subst (λ (i : ℕ). i < s .vis .begun) (r .2) (begun-phase net s (r .0 .tx) v (differ Granted Dropped refl (v .granteds (r .0) (r .1) .0))));
     once = λ x g.
-    let r = earlier-placed (s .placed) x x (subst (Earlier x x) (sym (l .placed)) g) in
-    not-twice (s .placed) (r .0) (r .1) (v .order .numbered) (one (r .0) (r .1) (before-in (r .0) (r .1) (s .placed) (r .2)) (after-in (r .0) (r .1) (s .placed) (r .2)) (r .3 ∙ sym (r .4))) (r .2);
+        let r = earlier-placed (s .placed) x x (subst (Earlier x x) (sym (l .placed)) g) in
+        not-twice (s .placed) (r .0) (r .1) (v .order .numbered) (one (r .0) (r .1) (before-in (r .0) (r .1) (s .placed) (r .2)) (after-in (r .0) (r .1) (s .placed) (r .2)) (r .3 ∙ sym (r .4))) (r .2);
     replay = λ st k. f .books st k ∙ versions-are k;
     ordered = placed-ordered f;
     shown = subst (λ (ds : List Received). Each-showed h (s .vis) ds (s .vis .readings)) (l .reads) (subst (Each-showed h (s .vis) (received-of (s .readings))) (l .entries)

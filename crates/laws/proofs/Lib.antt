@@ -1,4 +1,5 @@
 pub mod Lists
+pub mod Log
 pub mod Model
 pub mod Conflicts
 pub mod Placed
@@ -29,4 +30,5 @@ pub mod Determined
 pub mod Capacity
 pub mod View
 pub mod Examples
-mod Pair
+pub mod Play
+mod Runs

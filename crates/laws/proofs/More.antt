@@ -20,7 +20,8 @@ use Rattle.messages.specs.declared.Objection.{Objection}
 use Rattle.laws.proofs.Conflicts.{either-none}
 use Rattle.clocks.specs.declared.Content.{Content}
 use Rattle.laws.specs.Lists.{put, In, At, without, tally, those, either}
-use Rattle.laws.specs.Net.{Clock, Record, query, answer, prepare, vote, granted, refused, Message, Placement, Net, _⊑_, Drafted, written, Seen, newest-within, is-ballot, is-granted}
+use Rattle.laws.specs.Net.{Clock, Record, query, answer, prepare, vote, granted, refused, Message, Placement, Net, _⊑_, Drafted, written, newest-within, is-ballot, is-granted}
+use Rattle.laws.proofs.Log.{Seen}
 use Rattle.laws.proofs.Model.{Logged, State, by-step, next, noting, on, placing, start, then}
 use Rattle.laws.specs.Rules.{Ripe, Rule, agrees, asks, begins, begun-at, closed, closes, closes-empty, counts, drafts, drops, grants, receives, releases, reads-own, objects, refuses, replies, takes-in}
 use Rattle.laws.specs.State.{granted-record, placement, Visible, amended}
@@ -217,10 +218,10 @@ closes-more net s i n g =
 
 grants-more : (net : Net) (s : State) (p : ℕ) (m : Message) (named : Option Objection) → Invariant net s → More net s → Ripe net (s .vis) p m → m .body ≡ vote named → s .vis .records (m .tx) .awaited ≡ 1 → either (s .vis .records (m .tx) .named) named ≡ None →
     (let o = s .vis .records (m .tx) .origin in
-     let r = granted-record (s .vis) (m .tx) in
-     let T = placed-as (m .tx) r in
-     (Ready (put (s .vis .records) (m .tx) r) × Tidy (put (s .vis .records) (m .tx) r) × Roomy net (added net (s .vis .book) o T) × Growing (put (s .vis .records) (m .tx) r) (without (s .vis .air) p ++ grants-to net T (net .towers)) ×
-       Owed net (T ∷ s .placed) (passed (s .vis .clocks) o T) (without (s .vis .air) p ++ grants-to net T (net .towers))))
+    let r = granted-record (s .vis) (m .tx) in
+    let T = placed-as (m .tx) r in
+    (Ready (put (s .vis .records) (m .tx) r) × Tidy (put (s .vis .records) (m .tx) r) × Roomy net (added net (s .vis .book) o T) × Growing (put (s .vis .records) (m .tx) r) (without (s .vis .air) p ++ grants-to net T (net .towers)) ×
+    Owed net (T ∷ s .placed) (passed (s .vis .clocks) o T) (without (s .vis .air) p ++ grants-to net T (net .towers))))
 grants-more net s p m named v g ripe e one q =
     let a = ripe .there in
     let i = m .tx in
@@ -230,8 +231,7 @@ grants-more net s p m named v g ripe e one q =
     let T = placed-as i r in
     let b = v .votes .sound m (in-at (s .vis .air) p m a) (ap is-ballot e) in
     let ms = grants-to net T (net .towers) in
-    let all : (k : ℕ) → Drafted (T .drafts) k → Holds (s .vis .held) k (T .tx) = grants-holds net s p m named v a e one (either-none (old .named) named q) in
-    (
+    let all : (k : ℕ) → Drafted (T .drafts) k → Holds (s .vis .held) k (T .tx) = grants-holds net s p m named v a e one (either-none (old .named) named q) in (
       ready-put (s .vis .records) i r (g .ready) (λ c. absurd (differ Granted Closing refl refl c)),
       tidy-put (s .vis .records) i r (g .tidy) (g .tidy i),
       added-roomy net (s .vis .book) o T (g .tidy i) (λ k d _. v .holders .room k i (all k d)) (g .roomy),
@@ -265,7 +265,7 @@ takes-more net s p m n lines v g ripe e f =
 receives-growing : (net : Net) (s : State) (p : ℕ) (m : Message) (k : ℕ) (shown : Option Version) → Invariant net s → At (s .vis .air) p m → m .body ≡ answer k shown → Growing (s .vis .records) (s .vis .air) → Growing (put (s .vis .records) (m .tx) (reading-at (m .bound) (s .vis .records (m .tx)))) (without (s .vis .air) p)
 receives-growing net s p m k shown v a e g x j w h b =
     rw (put-other (s .vis .records) (m .tx) (reading-at (m .bound) (s .vis .records (m .tx))) (x .tx) (λ q.
-        none-left (λ y. eqb (y .tx) (m .tx) && is-read (y .body)) (s .vis .air) p m a (and-from _ _ (eq-eqb (m .tx) (m .tx) refl) (ap is-read e)) (v .reads .single (m .tx)) x h (and-from _ _ (eq-eqb _ _ (sym q)) (ap is-read b))))
+    none-left (λ y. eqb (y .tx) (m .tx) && is-read (y .body)) (s .vis .air) p m a (and-from _ _ (eq-eqb (m .tx) (m .tx) refl) (ap is-read e)) (v .reads .single (m .tx)) x h (and-from _ _ (eq-eqb _ _ (sym q)) (ap is-read b))))
     (g x j w (in-without (s .vis .air) p x h) b)
 
 -- an answer's bound has passed the query's

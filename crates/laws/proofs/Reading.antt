@@ -12,7 +12,8 @@ use Rattle.std.proofs.shelf.Tests.{eq-eqb, cond-true, cond-false, both-ways, an
 use Rattle.clocks.specs.declared.Version.{Version}
 use Rattle.tables.specs.declared.Phase.the-variants.{Open, Waiting, Closing, Granted, Refused, Dropped}
 use Rattle.laws.specs.Lists.{put, In, At, without}
-use Rattle.laws.specs.Net.{Clock, Record, Body, query, answer, vote, refused, Message, Net, _⊑_, versions, newest-within, has-closed}
+use Rattle.laws.specs.Net.{Clock, Record, Body, query, answer, vote, refused, Message, Net, _⊑_, newest-within, has-closed}
+use Rattle.laws.proofs.Log.{versions}
 use Rattle.laws.proofs.Model.{Answered, State, noting, on}
 use Rattle.laws.specs.Rules.{Ripe, asked, closed, received, replied}
 use Rattle.laws.specs.Words.{reading-at, message}

@@ -11,7 +11,8 @@ use Rattle.tables.specs.declared.Phase.the-variants.{Closing, Refused, Dropped}
 use Rattle.messages.specs.declared.Objection.{Objection}
 use Rattle.laws.proofs.Conflicts.{unopposed, opposed}
 use Rattle.laws.specs.Lists.{In}
-use Rattle.laws.specs.Net.{Record, refused, Placement, Net, Drafted, Seen, seen, has-closed}
+use Rattle.laws.specs.Net.{Record, refused, Placement, Net, Drafted, has-closed}
+use Rattle.laws.proofs.Log.{Seen, seen}
 use Rattle.laws.proofs.Model.{Logged, State, by-step, first, next, noting, on, placing, start, then}
 use Rattle.laws.specs.Rules.{Rule, agrees, asked, asks, begins, closed, closes, closes-empty, counts, drafts, drops, grants, receives, releases, reads-own, objects, refuses, replies, takes-in, voted}
 use Rattle.laws.specs.State.{placement, Visible}

@@ -12,7 +12,8 @@ use Rattle.clocks.specs.declared.Version.{Version}
 use Rattle.messages.specs.declared.Draft.{Draft}
 use Rattle.tables.specs.declared.Held.{Held}
 use Rattle.laws.specs.Lists.{put, In}
-use Rattle.laws.specs.Net.{Clock, Record, refused, Message, Placement, Net, _⊑_, Drafted, written, wrote, taken, count, Seen}
+use Rattle.laws.specs.Net.{Clock, Record, refused, Message, Placement, Net, _⊑_, Drafted, written}
+use Rattle.laws.proofs.Log.{wrote, taken, count, Seen}
 use Rattle.laws.specs.Words.{homed, freed}
 use Rattle.laws.specs.Rules.{voted}
 use Rattle.laws.proofs.Lists.{put-same, put-other, put-case, put-all}

@@ -17,7 +17,8 @@ use Rattle.tables.specs.declared.Phase.the-variants.{Waiting, Closing, Granted,
 use Rattle.messages.specs.declared.Objection.{Objection}
 use Rattle.laws.proofs.Conflicts.{Conflicts, taken-by, newer, full, either-cases, either-none}
 use Rattle.laws.specs.Lists.{put, In, At, without, either}
-use Rattle.laws.specs.Net.{Clock, Record, prepare, vote, refused, Message, Placement, Net, _⊑_, Drafted, taken, Seen, seen, inside, newest, has-closed}
+use Rattle.laws.specs.Net.{Clock, Record, prepare, vote, refused, Message, Placement, Net, _⊑_, Drafted, inside, newest, has-closed}
+use Rattle.laws.proofs.Log.{taken, Seen, seen}
 use Rattle.laws.proofs.Model.{State, on}
 use Rattle.laws.specs.Rules.{Ripe, asked, closed, counted, released, refusing, voted}
 use Rattle.laws.specs.State.{holding}

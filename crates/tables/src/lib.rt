@@ -45,31 +45,63 @@ pub enum Call {
 #[derive(Clone, Copy)]
 pub enum Told {
     // begin: the transaction
-    Begun { tx: u16 },
+    Begun {
+        tx: u16,
+    },
     // read of a key that the transaction has drafted: the draft
-    Own { content: Content },
+    Own {
+        content: Content,
+    },
     // read or close: how many messages were sent
-    Sent { count: u32 },
+    Sent {
+        count: u32,
+    },
     // draft: how many drafts the transaction has
-    Drafts { count: u32 },
+    Drafts {
+        count: u32,
+    },
     // close without drafts: granted, with no place
     ReadOnly,
     // drop: the transaction
-    Dropped { tx: u16 },
+    Dropped {
+        tx: u16,
+    },
     // a query was delivered
-    Queried { tx: u16 },
+    Queried {
+        tx: u16,
+    },
     // an answer was delivered, and shows a version's content or blank
-    Shown { tx: u16, key: u8, content: Option<Content> },
+    Shown {
+        tx: u16,
+        key: u8,
+        content: Option<Content>,
+    },
     // a prepare was delivered; the mark of the vote that was sent: 0 for yes, else the conflict's
-    Prepared { tx: u16, mark: u8 },
+    Prepared {
+        tx: u16,
+        mark: u8,
+    },
     // a vote was delivered, and others are awaited
-    Awaiting { tx: u16 },
+    Awaiting {
+        tx: u16,
+    },
     // the last vote was delivered, and the transaction is granted at this place
-    Placed { tx: u16, place: u32 },
+    Placed {
+        tx: u16,
+        place: u32,
+    },
     // the last vote was delivered, and the transaction is refused for this key
-    Refused { tx: u16, key: u8 },
+    Refused {
+        tx: u16,
+        key: u8,
+    },
     // an outcome was delivered to this tower
-    Ended { tx: u16, tower: u8 },
+    Ended {
+        tx: u16,
+        tower: u8,
+    },
     // the call was turned down, and nothing changed
-    Fault { cause: Cause },
+    Fault {
+        cause: Cause,
+    },
 }
