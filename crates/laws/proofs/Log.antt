@@ -1,10 +1,11 @@
 -- The transactions placed, the newest first: whom a clock has within it, and what they wrote. Assumes nothing.
+use mathlib.Core.Path.{_≡_}
 use mathlib.Core.List.{List, [], _∷_, _++_}
 use mathlib.Core.Bool.{Bool, cond}
 use Prim.Native.Nat.{ℕ, _≤_}
 use lib.Dec.{eqb, leb}
 use Rattle.clocks.specs.declared.Version.{Version}
-use Rattle.laws.specs.Lists.{tally}
+use Rattle.laws.specs.Lists.{In, tally}
 use Rattle.laws.specs.Net.{Clock, Placement, written}
 
 -- the transaction is within the clock
@@ -30,3 +31,7 @@ taken c (T ∷ P) k = taken c P k ++ cond (seen T c) (wrote T k) []
 -- how many are placed from this tower
 abbrev pub count : List Placement → Clock
 count P j = tally (λ T. eqb (T .origin) j) P
+
+-- who is placed with this number
+abbrev pub Is-placed : List Placement → ℕ → ℕ → ℕ → Type 0
+Is-placed P o w n = (E : Placement) × In E P × (E .tx ≡ w) × (E .origin ≡ o) × (E .number ≡ n)

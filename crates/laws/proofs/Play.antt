@@ -1,5 +1,4 @@
 -- The run of any list of calls, computed. Assumes nothing.
-use mathlib.Core.Path.{refl}
 use mathlib.Core.List.{List, [], _∷_}
 use Rattle.tables.specs.declared.Call.{Call}
 use Rattle.laws.specs.Net.{Net}

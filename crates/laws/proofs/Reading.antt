@@ -84,7 +84,7 @@ replies-keeps net s p m k first v ripe e =
       outcomes = outcomes-sent net P (s .vis .clocks) rest (q ∷ []) (only (λ x. is-granted (x .body) ≡ false) q refl)
           (outcomes-landed net P (s .vis .clocks) (s .vis .air) p m a (ap is-granted e) (v .outcomes));
       refusals = refusals-sent net P rs (s .vis .book) rest (q ∷ [])
-          (λ x j. only (λ x. x .body ≡ vote (Some j) → Justified net (intents rs) P (s .vis .book) (x .tx) (j .key)) q (λ e. absurd (both-ways false refl (ap is-ballot e))) x)
+          (λ x j. only (λ x. x .body ≡ vote (Some j) → Justified net (intents rs) P (s .vis .book) (x .tx) j) q (λ e. absurd (both-ways false refl (ap is-ballot e))) x)
           (refusals-landed net P rs (s .vis .book) (s .vis .air) p (v .refusals));
     }
 

@@ -1,26 +1,22 @@
 -- Runs of a net of two towers, computed. Assumes nothing.
 use mathlib.Core.Path.{_≡_, refl}
 use mathlib.Core.List.{List, [], _∷_, map, reverse}
-use mathlib.Core.Logic.{_≢_}
 use Prim.Native.Nat.{ℕ, _%_}
 use native.Mathlib.Omega.{arith}
 use Rattle.std.specs.declared.option.Option.the-variants.{Some, None}
 use Rattle.faults.specs.declared.Cause.the-variants.{Tower, Unknown, Key, Phase as PhaseFault, Full, Air, Message as NoMessage, Early, List as ListFull}
 use Rattle.clocks.specs.declared.Content.{Content}
 use Rattle.clocks.specs.declared.Version.{Version}
-use Rattle.messages.specs.declared.Draft.{Draft}
-use Rattle.messages.specs.declared.Conflict.the-variants.{Held as HeldBy, Newer, Full as AtDepth}
-use Rattle.tables.specs.declared.Phase.the-variants.{Granted}
+use Rattle.messages.specs.declared.Conflict.the-variants.{Held as HeldBy, Newer}
 use Rattle.tables.specs.declared.Call.{Call}
 use Rattle.tables.specs.declared.Call.the-variants.{Begin, Read, Draft as DraftCall, Close, Drop as DropCall, Deliver}
 use Rattle.tables.specs.declared.Told.{Told}
-use Rattle.tables.specs.declared.Told.the-variants.{Begun, Own, Sent, Drafts, ReadOnly, Dropped as ToldDropped, Queried, Shown, Prepared, Awaiting, Placed, Refused as ToldRefused, Ended, Fault}
+use Rattle.tables.specs.declared.Told.the-variants.{Begun, Own, Sent, Drafts, ReadOnly, Queried, Shown, Prepared, Placed, Refused as ToldRefused, Ended, Fault}
 use Rattle.laws.specs.Lists.{put}
 use Rattle.laws.specs.Net.{Net}
-use Rattle.laws.specs.History.{placedIn, numberIn, versionsIn}
+use Rattle.laws.specs.History.{versionsIn}
 use Rattle.laws.specs.Further.{Two-alone}
-use Rattle.laws.proofs.Further.{both-granted}
-use Rattle.laws.proofs.Play.{play, played}
+use Rattle.laws.proofs.Play.{play}
 
 -- keys live at tower 0 and tower 1 in turn
 abbrev two : ℕ → Net

@@ -9,7 +9,7 @@ use Rattle.std.specs.declared.option.Option.the-variants.{Some}
 use Rattle.std.proofs.shelf.Tests.{cases-eq, cases-bool, both-ways, leb-true, leb-false}
 use Rattle.tables.specs.declared.Phase.the-variants.{Closing, Refused, Dropped}
 use Rattle.messages.specs.declared.Objection.{Objection}
-use Rattle.laws.proofs.Conflicts.{unopposed, opposed}
+use Rattle.laws.proofs.Conflicts.{unopposed, opposed, says-map}
 use Rattle.laws.specs.Lists.{In}
 use Rattle.laws.specs.Net.{Record, refused, Placement, Net, Drafted, has-closed}
 use Rattle.laws.proofs.Log.{Seen, seen}
@@ -115,25 +115,15 @@ intent-drafted r k d = elim (cases-bool (has-closed (r .phase))) [
   | inr e ↦ absurd (no-intent r k e d)
 ]
 
-refused-for : (net : Net) (s : State) (i : ℕ) (k : Objection) → s .vis .records i .phase ≡ Refused → s .vis .records i .named ≡ Some k → Justified net (intents (s .vis .records)) (s .placed) (s .vis .book) i (k .key) → Refused-for net s i k
+refused-for : (net : Net) (s : State) (i : ℕ) (k : Objection) → s .vis .records i .phase ≡ Refused → s .vis .records i .named ≡ Some k → Justified net (intents (s .vis .records)) (s .placed) (s .vis .book) i k → Refused-for net s i k
 refused-for net s i k c n g =
     let is = intent-shut (s .vis .records i) (ap has-closed c) in
     record {
       named = n;
       drafted = intent-drafted (s .vis .records i) (k .key) (g .drafted) .1;
-      cause = elim (g .cause) [
-        | inl x ↦ (let d = intent-drafted (s .vis .records (x .0)) (k .key) (x .1 .drafted) in
-            inl (
-              x .0,
-              record {
-                other = x .1 .other;
-                asked = d .0;
-                drafted = d .1;
-                outside = λ E h t u. x .1 .outside E h t (rw is u);
-              },
-            ))
-        | inr f ↦ inr f
-      ];
+      cause = says-map (λ j x.
+          let d = intent-drafted (s .vis .records j) (k .key) (x .drafted) in
+          record { other = x .other; asked = d .0; drafted = d .1; outside = λ E h t u. x .outside E h t (rw is u) }) (λ o w n x. x) (λ x. x) (k .conflict) (g .cause);
     }
 
 pub facts-stand : Facts-stand
