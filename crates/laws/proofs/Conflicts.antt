@@ -30,7 +30,7 @@ pub data Conflict (depth : ℕ) (held : List Held) (versions : List Version) (bo
 
 -- the conflict that is told, with what it rests on
 abbrev pub Evidence : Net → Visible → Message → ℕ → told.Conflict → Type 0
-Evidence net v m k (HeldBy o w) = (h : Held) × In h (v .held) × (h .key ≡ k) × (h .tx ≢ m .tx) × (h .tx ≡ w)
+Evidence net v m k (HeldBy o w) = (h : Held) × In h (v .held) × (h .key ≡ k) × (h .tx ≢ m .tx) × (h .tx ≡ w) × (h .origin ≡ o)
 Evidence net v m k (Newer o w n) = (x : Version) × (newest (v .book k) ≡ Some x) × (inside (m .bound) x ≡ false) × (x .origin ≡ o) × (x .writer ≡ w) × (x .number ≡ n)
 Evidence net v m k Full = length (v .book k) ≡ net .depth
 
@@ -76,7 +76,7 @@ module _ (net : Net) (v : Visible) (m : Message) (k : ℕ) where
       let x = first-is (another-holds (m .tx) k) (v .held) h e in
       let y = and-parts (eqb (h .key) k) _ (x .1) in
       let z : HeldBy (h .origin) (h .tx) ≡ c = cc f in
-      subst (Evidence net v m k) z (h, x .0, eqb-true _ _ (y .0), (λ q. both-ways (not (eqb (h .tx) (m .tx))) (ap not (eq-eqb _ _ q)) (y .1)), refl)
+      subst (Evidence net v m k) z (h, x .0, eqb-true _ _ (y .0), (λ q. both-ways (not (eqb (h .tx) (m .tx))) (ap not (eq-eqb _ _ q)) (y .1)), refl, refl)
 
   newer-some : (o : Option Version) (c : told.Conflict) → newest (v .book k) ≡ o → newer-conflict (m .bound) o ≡ Some c → Evidence net v m k c
   newer-some None c e f = absurd (none-some refl f)
@@ -157,12 +157,16 @@ module _ (net : Net) (v : Visible) (m : Message) (lines : List Draft) where
 
 -- ## What a conflict says
 
-pub says-map : {R R′ : ℕ → Type 0} {N N′ : ℕ → ℕ → ℕ → Type 0} {D D′ : Type 0} → ((j : ℕ) → R j → R′ j) → ((o w n : ℕ) → N o w n → N′ o w n) → (D → D′) → (c : told.Conflict) → Says R N D c → Says R′ N′ D′ c
-says-map r n d (HeldBy o w) x = r w x
-says-map r n d (Newer o w k) x = (r w (x .0), n o w k (x .1))
-says-map r n d Full x = d x
+-- nothing is said of the holder's origin
+abbrev pub Any : ℕ → ℕ → Type 0
+Any o w = Unit {0}
 
-pub says-one : (R : ℕ → Type 0) (N : ℕ → ℕ → ℕ → Type 0) (D : Type 0) → (c : told.Conflict) → Says R N D c → ((j : ℕ) × R j) ⊎ D
-says-one R N D (HeldBy o w) x = inl (w, x)
-says-one R N D (Newer o w n) x = inl (w, x .0)
-says-one R N D Full x = inr x
+pub says-map : {R R′ : ℕ → Type 0} {H : ℕ → ℕ → Type 0} {N N′ : ℕ → ℕ → ℕ → Type 0} {D D′ : Type 0} → ((j : ℕ) → R j → R′ j) → ((o w n : ℕ) → N o w n → N′ o w n) → (D → D′) → (c : told.Conflict) → ((o w : ℕ) → c ≡ HeldBy o w → H o w) → Says R Any N D c → Says R′ H N′ D′ c
+says-map r n d (HeldBy o w) h x = (r w (x .0), h o w refl)
+says-map r n d (Newer o w k) h x = (r w (x .0), n o w k (x .1))
+says-map r n d Full h x = d x
+
+pub says-one : (R : ℕ → Type 0) (H : ℕ → ℕ → Type 0) (N : ℕ → ℕ → ℕ → Type 0) (D : Type 0) → (c : told.Conflict) → Says R H N D c → ((j : ℕ) × R j) ⊎ D
+says-one R H N D (HeldBy o w) x = inl (w, x .0)
+says-one R H N D (Newer o w n) x = inl (w, x .0)
+says-one R H N D Full x = inr x

@@ -66,7 +66,7 @@ justified-same net I J P book i a e g = record {
   drafted = rw (e i (a .key) (g .drafted)) (g .drafted);
   cause = says-map
       (λ j c. record { other = c .other; drafted = rw (e j (a .key) (c .drafted)) (c .drafted); outside = rw (e i (a .key) (g .drafted)) (c .outside) })
-      (λ o w n x. x) (λ x. x) (a .conflict) (g .cause);
+      (λ o w n x. x) (λ x. x) (a .conflict) (λ o w _. tt) (g .cause);
 }
 
 -- ## A record that was not shut, amended

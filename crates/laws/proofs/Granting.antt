@@ -167,7 +167,7 @@ module _ (P : List Placement) (T : Placement) (n : T .number ≡ suc (count P (T
           drafted = c .drafted;
           outside = λ E l. elim l [ inl e ↦ λ _ s. unseen (I i .bound) f (subst (λ (x : Placement). Seen x (I i .bound)) e s) | inr l ↦ c .outside E l ];
         })
-        (λ o w n x. (x .0, inr (x .1), x .2, x .3, x .4)) (λ x. x) (a .conflict) (g .cause);
+        (λ o w n x. (x .0, inr (x .1), x .2, x .3, x .4)) (λ x. x) (a .conflict) (λ o w _. tt) (g .cause);
   }
 
   -- an intent's bound is a bound

@@ -13,6 +13,7 @@ use Rattle.messages.specs.declared.Draft.{Draft}
 use Rattle.messages.specs.declared.Objection.{Objection}
 use Rattle.tables.specs.declared.Held.{Held}
 use Rattle.tables.specs.declared.Phase.the-variants.{Waiting, Closing, Granted, Refused}
+use Rattle.laws.proofs.Conflicts.{Any}
 use Rattle.laws.proofs.Log.{Is-placed, versions, taken, count, Seen}
 use Rattle.laws.specs.Laws.{Says}
 use Rattle.laws.specs.Lists.{In, tally}
@@ -148,7 +149,7 @@ pub record Rival (I : Intents) (P : List Placement) (i k j : ℕ) : Type 0 where
 
 pub record Justified (net : Net) (I : Intents) (P : List Placement) (book : ℕ → List Version) (i : ℕ) (a : Objection) : Type 0 where
   pub drafted : Drafted (I i .drafts) (a .key)
-  pub cause : Says (Rival I P i (a .key)) (Is-placed P) (length (book (a .key)) ≡ net .depth) (a .conflict)
+  pub cause : Says (Rival I P i (a .key)) Any (Is-placed P) (length (book (a .key)) ≡ net .depth) (a .conflict)
 
 pub record Refusals (net : Net) (P : List Placement) (rs : ℕ → Record) (book : ℕ → List Version) (air : List Message) : Type 0 where
   pub voted : (m : Message) (k : Objection) → In m air → m .body ≡ vote (Some k) → Justified net (intents rs) P book (m .tx) k

@@ -177,13 +177,13 @@ module _ (net : Net) (h : List Event) (s : State) (v : Invariant net s) (l : Lin
 
   cause-of : (i : ℕ) (k : Objection) → Refused-for net s i k → Cause net h (s .vis) i k
   cause-of i k c =
-      let so = says-map {R′ = Rival h (s .vis) i (k .key)} {N′ = λ o w n. (originIn h w ≡ o) × (numberIn h w ≡ Some n)} (λ j x. record {
+      let so = says-map {R′ = Rival h (s .vis) i (k .key)} {H = λ o w. originIn h w ≡ o} {N′ = λ o w n. (originIn h w ≡ o) × (numberIn h w ≡ Some n)} (λ j x. record {
         other = x .other;
         closed = x .asked;
         drafted = rw (l .drafts j) at (x .drafted);
         outside = outside-of j (s .vis .records i .bound) (x .outside);
-      }) (λ o w n x. (sym (origin-is (x .0) w (x .1) (x .2)) ∙ x .3, ap (numberIn h) (sym (x .2)) ∙ numbered-as (x .0) (x .1) ∙ ap Some (x .4))) (λ x. x) (k .conflict) (c .cause) in
-      record { named = c .named; drafted = rw (l .drafts i) at (c .drafted); cause = says-one _ _ _ (k .conflict) so; told = so }
+      }) (λ o w n x. (sym (origin-is (x .0) w (x .1) (x .2)) ∙ x .3, ap (numberIn h) (sym (x .2)) ∙ numbered-as (x .0) (x .1) ∙ ap Some (x .4))) (λ x. x) (k .conflict) (λ o w e. sym (l .origins w) ∙ c .holder o w e) (c .cause) in
+      record { named = c .named; drafted = rw (l .drafts i) at (c .drafted); cause = says-one _ _ _ _ (k .conflict) so; told = so }
 
   placed-ordered : Facts net s → (x y k : ℕ) → Earlier x y (placedIn h) → Drafted (draftsIn h x) k → Drafted (draftsIn h y) k → Within h x (s .vis .records y .bound)
   placed-ordered f x y k g dx dy =

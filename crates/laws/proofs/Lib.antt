@@ -12,6 +12,7 @@ pub mod Voting
 pub mod TakeIn
 pub mod Granting
 pub mod Shown
+pub mod Origins
 pub mod Stand
 pub mod Ranges
 pub mod Histories

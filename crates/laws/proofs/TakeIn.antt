@@ -114,7 +114,7 @@ module _ (net : Net) (I : Intents) (P : List Placement) (cs : ℕ → Clock) (bo
 -- ## The causes
 
 pub justified-full : (net : Net) (I : Intents) (P : List Placement) (book book′ : ℕ → List Version) → ((k : ℕ) → length (book k) ≡ net .depth → length (book′ k) ≡ net .depth) → (i : ℕ) (a : Objection) → Justified net I P book i a → Justified net I P book′ i a
-justified-full net I P book book′ f i a g = record { drafted = g .drafted; cause = says-map (λ j x. x) (λ o w n x. x) (f (a .key)) (a .conflict) (g .cause) }
+justified-full net I P book book′ f i a g = record { drafted = g .drafted; cause = says-map (λ j x. x) (λ o w n x. x) (f (a .key)) (a .conflict) (λ o w _. tt) (g .cause) }
 
 pub refusals-full : (net : Net) (P : List Placement) (rs : ℕ → Record) (book book′ : ℕ → List Version) (air : List Message) → ((k : ℕ) → length (book k) ≡ net .depth → length (book′ k) ≡ net .depth) → Refusals net P rs book air → Refusals net P rs book′ air
 refusals-full net P rs book book′ air f g = record {

@@ -15,7 +15,7 @@ use Rattle.messages.specs.declared.Draft.{Draft}
 use Rattle.tables.specs.declared.Held.{Held}
 use Rattle.tables.specs.declared.Phase.the-variants.{Waiting, Closing, Granted, Refused, Dropped}
 use Rattle.messages.specs.declared.Objection.{Objection}
-use Rattle.laws.proofs.Conflicts.{Conflicts, taken-by, newer, full, Evidence, either-cases, either-none}
+use Rattle.laws.proofs.Conflicts.{Conflicts, taken-by, newer, full, Evidence, either-cases, either-none, Any}
 use Rattle.messages.specs.declared.Conflict.{Conflict}
 use Rattle.messages.specs.declared.Conflict.the-variants.{Held as HeldBy, Newer, Full}
 use Rattle.laws.specs.Laws.{Says}
@@ -189,15 +189,18 @@ conflict-cause net s m k o v c b l d x = record { drafted = rw is d; cause = go 
     bound-is : intent r .bound ≡ m .bound
     bound-is = ap (λ (x : Intent). x .bound) is ∙ sym b
 
-    go : (o : Conflict) → Evidence net (s .vis) m k o → Says (Rival (intents (s .vis .records)) (s .placed) (m .tx) k) (Is-placed (s .placed)) (length (s .vis .book k) ≡ net .depth) o
+    go : (o : Conflict) → Evidence net (s .vis) m k o → Says (Rival (intents (s .vis .records)) (s .placed) (m .tx) k) Any (Is-placed (s .placed)) (length (s .vis .book k) ≡ net .depth) o
     go Full f = f
-    go (HeldBy o w) (h, g, e, n, t) = subst (Rival (intents (s .vis .records)) (s .placed) (m .tx) k) t (record {
-      other = n;
-      drafted = v .holders .meant k (h .tx) (h, g, e, refl);
-      outside = λ E w t u.
-          let u′ : E .number ≤ m .bound (E .origin) = rw bound-is at u in
-          v .holders .after k E w (h, g, e, sym t) (omega (arith, u′, l (E .origin)));
-    })
+    go (HeldBy o w) (h, g, e, n, t, _) = (
+      subst (Rival (intents (s .vis .records)) (s .placed) (m .tx) k) t (record {
+        other = n;
+        drafted = v .holders .meant k (h .tx) (h, g, e, refl);
+        outside = λ E w t u.
+            let u′ : E .number ≤ m .bound (E .origin) = rw bound-is at u in
+            v .holders .after k E w (h, g, e, sym t) (omega (arith, u′, l (E .origin)));
+      }),
+      tt,
+    )
     go (Newer o′ w′ n′) (w, q, f, eo, ew, en) =
         let x = newest-by (s .placed) (s .vis .clocks (net .home k)) k w (sym (ap newest (v .books k)) ∙ q) in
         let E = x .0 in
