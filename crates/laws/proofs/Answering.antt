@@ -1,18 +1,17 @@
 -- Whatever is called in a net that a run has reached, there is something to tell. Assumes nothing.
-use mathlib.Core.Path.{_≡_, refl, sym, ap, subst, _∙_}
+use mathlib.Core.Path.{_≡_, refl, sym, subst}
 use mathlib.Core.List.{List, [], _∷_}
-use mathlib.Core.Bool.{Bool, true, false, cond, _&&_}
-use mathlib.Core.Logic.{_⊎_, inl, inr, _≢_}
+use mathlib.Core.Bool.{Bool, true, false}
+use mathlib.Core.Logic.{inl, inr}
 use Prim.Native.Nat.{ℕ, zero, suc, _≤_, _<_}
 use native.Mathlib.Omega.{arith}
-use lib.Dec.{eqb, leb, ltb}
+use lib.Dec.{leb, ltb}
 use lib.ListN.{length}
 use Rattle.std.specs.declared.option.Option.{Option}
 use Rattle.std.specs.declared.option.Option.the-variants.{Some, None}
 use Rattle.std.specs.shelf.Maps.{nth}
-use Rattle.std.proofs.shelf.Tests.{eqb-true, ltb-true, leb-true, cases-eq, cases-bool, cases-lt, and-parts}
+use Rattle.std.proofs.shelf.Tests.{eqb-true, ltb-true, leb-true, cases-eq, cases-lt, and-parts}
 use Rattle.faults.specs.declared.Cause.{Cause}
-use Rattle.clocks.specs.declared.Content.{Content}
 use Rattle.messages.specs.declared.Draft.{Draft}
 use Rattle.messages.specs.declared.Objection.{Objection}
 use Rattle.tables.specs.declared.Phase.{Phase}
@@ -21,10 +20,10 @@ use Rattle.tables.specs.declared.Call.{Call}
 use Rattle.tables.specs.declared.Call.the-variants.{Begin, Read, Draft as DraftCall, Close, Drop as DropCall, Deliver}
 use Rattle.tables.specs.declared.Told.{Told}
 use Rattle.laws.specs.Lists.{At, either}
-use Rattle.laws.specs.Net.{Clock, Body, query, answer, prepare, vote, granted, refused, Message, Net, _⊑_}
+use Rattle.laws.specs.Net.{Clock, Body, query, answer, prepare, vote, granted, refused, Message, Net}
 use Rattle.laws.specs.Words.{draft-of, redrafted, Event}
 use Rattle.laws.specs.State.{Visible}
-use Rattle.laws.specs.Faults.{unless, is-open, covers-first, ripe, unless-open, delivery-fault, message-fault, first-fault}
+use Rattle.laws.specs.Faults.{unless, is-open, covers-first, ripe, unless-open, message-fault, first-fault}
 use Rattle.laws.specs.Rules.{objection, Ripe, Rule, Step, fails, obeys, Run, begins, reads-own, asks, drafts, drops, closes-empty, closes, replies, receives, agrees, objects, counts, grants, refuses, takes-in, releases}
 use Rattle.laws.specs.Further.{Always, Every-call-answered}
 use Rattle.laws.proofs.Lists.{in-at}
@@ -57,7 +56,7 @@ nth-at [] p x e = absurd (none-some refl e)
 nth-at (y ∷ xs) zero x e = let q : y ≡ x = cc e in sym q
 nth-at (y ∷ xs) (suc p) x e = nth-at xs p x e
 
-covers-below : (n : ℕ) (c b : Clock) → covers-first n c b ≡ true → (j : ℕ) → j < n → b j ≤ c j
+pub covers-below : (n : ℕ) (c b : Clock) → covers-first n c b ≡ true → (j : ℕ) → j < n → b j ≤ c j
 covers-below zero c b e j l = absurd (omega (arith, l))
 covers-below (suc n) c b e j l =
     let r = and-parts (leb (b n) (c n)) _ e in

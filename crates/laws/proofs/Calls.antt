@@ -157,7 +157,7 @@ asks-keeps net s i k v o =
       }) (no-reads net s i v (differ Open Waiting refl o)) (w .reads);
       outcomes = outcomes-sent net (s .placed) (s .vis .clocks) (s .vis .air) (q ∷ []) (only (λ x. is-granted (x .body) ≡ false) q refl) (w .outcomes);
       refusals = refusals-sent net (s .placed) rs (s .vis .book) (s .vis .air) (q ∷ [])
-          (λ m k. only (λ m. m .body ≡ vote (Some k) → Justified net (intents rs) (s .placed) (s .vis .book) (m .tx) (k .key)) q (λ e. absurd (both-ways false refl (ap is-ballot e))) m) (w .refusals);
+          (λ m k. only (λ m. m .body ≡ vote (Some k) → Justified net (intents rs) (s .placed) (s .vis .book) (m .tx) k) q (λ e. absurd (both-ways false refl (ap is-ballot e))) m) (w .refusals);
     }
 
 -- ## The prepares of a close

@@ -1,28 +1,25 @@
 -- The tables suffice: checks turn down what they have no place for. Assumes nothing.
-use mathlib.Core.Path.{_≡_, refl, sym, ap, subst, _∙_}
+use mathlib.Core.Path.{_≡_, refl, sym, ap, subst}
 use mathlib.Core.List.{List, [], _∷_, _++_}
-use mathlib.Core.Bool.{Bool, true, false, cond}
 use mathlib.Core.Logic.{_≢_}
-use Prim.Native.Nat.{ℕ, zero, suc, _+_, _≤_, _<_}
+use Prim.Native.Nat.{ℕ, zero, suc, _+_, _≤_}
 use native.Mathlib.Omega.{arith}
-use lib.Dec.{eqb, leb, ltb}
+use lib.Dec.{ltb}
 use lib.ListN.{length, length-append}
 use Rattle.std.specs.declared.option.Option.{Option}
 use Rattle.std.specs.declared.option.Option.the-variants.{Some, None}
 use Rattle.std.specs.shelf.Maps.{nth}
 use Rattle.std.proofs.shelf.Tests.{eq-eqb, ltb-true, leb-true}
-use Rattle.faults.specs.declared.Cause.{Cause}
 use Rattle.messages.specs.declared.Draft.{Draft}
 use Rattle.messages.specs.declared.Objection.{Objection}
 use Rattle.tables.specs.declared.Call.{Call}
-use Rattle.tables.specs.declared.Reading.{Reading}
 use Rattle.tables.specs.declared.Told.{Told}
 use Rattle.laws.specs.Lists.{At, without, either}
 use Rattle.laws.specs.Net.{Body, answer, vote, Message, Net, writer-of}
-use Rattle.laws.specs.Words.{draft-of, prepares, Event}
+use Rattle.laws.specs.Words.{prepares, Event}
 use Rattle.laws.specs.State.{Visible}
 use Rattle.laws.specs.Faults.{ripe, room, unless-room, read-fault, close-fault, outcomes-of, delivery-fault, message-fault, first-fault}
-use Rattle.laws.specs.Rules.{Rule, Step, fails, obeys, Run, start, then, begins, reads-own, asks, drafts, drops, closes-empty, closes, replies, receives, agrees, objects, counts, grants, refuses, takes-in, releases}
+use Rattle.laws.specs.Rules.{Rule, Step, fails, obeys, start, then, begins, reads-own, asks, drafts, drops, closes-empty, closes, replies, receives, agrees, objects, counts, grants, refuses, takes-in, releases}
 use Rattle.laws.specs.Further.{Always, Within-capacity}
 use Rattle.laws.proofs.Answering.{passes, passes-open}
 use Rattle.laws.proofs.Determined.{at-nth}

@@ -9,23 +9,30 @@ use lib.Dec.{eqb}
 use lib.ListN.{length}
 use Rattle.std.specs.declared.option.Option.{Option}
 use Rattle.std.specs.declared.option.Option.the-variants.{Some, None}
-use Rattle.std.proofs.shelf.Tests.{eq-eqb, ne-eqb, eqb-true, cases-bool, both-ways, and-parts, and-from}
+use Rattle.std.proofs.shelf.Tests.{eq-eqb, ne-eqb, eqb-true, both-ways, and-parts, and-from}
 use Rattle.clocks.specs.declared.Version.{Version}
 use Rattle.messages.specs.declared.Draft.{Draft}
 use Rattle.messages.specs.declared.Objection.{Objection}
 use Rattle.messages.specs.declared.Conflict as told
-use Rattle.messages.specs.declared.Conflict.the-variants.{Full}
+use Rattle.messages.specs.declared.Conflict.the-variants.{Held as HeldBy, Newer, Full}
 use Rattle.tables.specs.declared.Held.{Held}
 use Rattle.laws.specs.Lists.{In, either, first-of}
 use Rattle.laws.specs.Net.{Clock, Message, Net, Drafted, inside, newest}
 use Rattle.laws.specs.Words.{held-conflict, newer-conflict, another-holds, conflict-at, objection-at, first-objection}
 use Rattle.laws.specs.State.{Visible}
 use Rattle.laws.specs.Rules.{objection}
+use Rattle.laws.specs.Laws.{Says}
 
 pub data Conflict (depth : ℕ) (held : List Held) (versions : List Version) (bound : Clock) (i k : ℕ) : Type 0 where
   taken-by : (h : Held) → In h held → h .key ≡ k → h .tx ≢ i → Conflict depth held versions bound i k
   newer : (v : Version) → newest versions ≡ Some v → inside bound v ≡ false → Conflict depth held versions bound i k
   full : length versions ≡ depth → Conflict depth held versions bound i k
+
+-- the conflict that is told, with what it rests on
+abbrev pub Evidence : Net → Visible → Message → ℕ → told.Conflict → Type 0
+Evidence net v m k (HeldBy o w) = (h : Held) × In h (v .held) × (h .key ≡ k) × (h .tx ≢ m .tx) × (h .tx ≡ w) × (h .origin ≡ o)
+Evidence net v m k (Newer o w n) = (x : Version) × (newest (v .book k) ≡ Some x) × (inside (m .bound) x ≡ false) × (x .origin ≡ o) × (x .writer ≡ w) × (x .number ≡ n)
+Evidence net v m k Full = length (v .book k) ≡ net .depth
 
 abbrev pub Conflicts : Net → Visible → Message → ℕ → Type 0
 Conflicts net v m k = Conflict (net .depth) (v .held) (v .book k) (m .bound) (m .tx) k
@@ -62,34 +69,37 @@ first-none q (x ∷ xs) e v h = go (q x) refl (first-none q xs) e h
 
 -- ## A key
 
-module _ (depth : ℕ) (held : List Held) (vs : List Version) (b : Clock) (i k : ℕ) where
-  held-some : (o : Option Held) (c : told.Conflict) → first-of (another-holds i k) held ≡ o → held-conflict o ≡ Some c → Conflict depth held vs b i k
+module _ (net : Net) (v : Visible) (m : Message) (k : ℕ) where
+  held-some : (o : Option Held) (c : told.Conflict) → first-of (another-holds (m .tx) k) (v .held) ≡ o → held-conflict o ≡ Some c → Evidence net v m k c
   held-some None c e f = absurd (none-some refl f)
   held-some (Some h) c e f =
-      let x = first-is (another-holds i k) held h e in
+      let x = first-is (another-holds (m .tx) k) (v .held) h e in
       let y = and-parts (eqb (h .key) k) _ (x .1) in
-      taken-by h (x .0) (eqb-true _ _ (y .0)) (λ q. both-ways (not (eqb (h .tx) i)) (ap not (eq-eqb _ _ q)) (y .1))
+      let z : HeldBy (h .origin) (h .tx) ≡ c = cc f in
+      subst (Evidence net v m k) z (h, x .0, eqb-true _ _ (y .0), (λ q. both-ways (not (eqb (h .tx) (m .tx))) (ap not (eq-eqb _ _ q)) (y .1)), refl, refl)
 
-  newer-some : (o : Option Version) (c : told.Conflict) → newest vs ≡ o → newer-conflict b o ≡ Some c → Conflict depth held vs b i k
+  newer-some : (o : Option Version) (c : told.Conflict) → newest (v .book k) ≡ o → newer-conflict (m .bound) o ≡ Some c → Evidence net v m k c
   newer-some None c e f = absurd (none-some refl f)
-  newer-some (Some v) c e f = elim (cases-bool (inside b v)) [
-    | inl t ↦ absurd (none-some refl (rw t at f))
-    | inr t ↦ newer v e t
-  ]
+  newer-some (Some x) c e f = go (inside (m .bound) x) refl f
+    where
+      go : (b : Bool) → inside (m .bound) x ≡ b → cond b None (Some (Newer (x .origin) (x .writer) (x .number))) ≡ Some c → Evidence net v m k c
+      go true t f = absurd (none-some refl f)
+      go false t f = let z : Newer (x .origin) (x .writer) (x .number) ≡ c = cc f in subst (Evidence net v m k) z (x, e, t, refl, refl, refl)
 
-  pub conflict-some : (c : told.Conflict) → conflict-at depth held vs b i k ≡ Some c → Conflict depth held vs b i k
-  conflict-some c e = elim (either-cases (held-conflict (first-of (another-holds i k) held)) _ c e) [
-    | inl x ↦ held-some (first-of (another-holds i k) held) c refl x
-    | inr x ↦ elim (either-cases (newer-conflict b (newest vs)) _ c (x .1)) [
-      | inl y ↦ newer-some (newest vs) c refl y
-      | inr y ↦ last (cases-bool (eqb (length vs) depth)) (y .1)
+  pub conflict-some : (c : told.Conflict) → conflict-at (net .depth) (v .held) (v .book k) (m .bound) (m .tx) k ≡ Some c → Evidence net v m k c
+  conflict-some c e = elim (either-cases (held-conflict (first-of (another-holds (m .tx) k) (v .held))) _ c e) [
+    | inl x ↦ held-some (first-of (another-holds (m .tx) k) (v .held)) c refl x
+    | inr x ↦ elim (either-cases (newer-conflict (m .bound) (newest (v .book k))) _ c (x .1)) [
+      | inl y ↦ newer-some (newest (v .book k)) c refl y
+      | inr y ↦ last (eqb (length (v .book k)) (net .depth)) refl (y .1)
     ]
   ]
     where
-      last : (eqb (length vs) depth ≡ true) ⊎ (eqb (length vs) depth ≡ false) → cond (eqb (length vs) depth) (Some Full) None ≡ Some c → Conflict depth held vs b i k
-      last (inl t) f = full (eqb-true _ _ t)
-      last (inr t) f = absurd (none-some refl (rw t at f))
+      last : (b : Bool) → eqb (length (v .book k)) (net .depth) ≡ b → cond b (Some Full) None ≡ Some c → Evidence net v m k c
+      last true t f = let z : Full ≡ c = cc f in subst (Evidence net v m k) z (eqb-true _ _ t)
+      last false t f = absurd (none-some refl f)
 
+module _ (depth : ℕ) (held : List Held) (vs : List Version) (b : Clock) (i k : ℕ) where
   held-none : (o : Option Held) → held-conflict o ≡ None → o ≡ None
   held-none None e = refl
   held-none (Some h) e = absurd (none-some e refl)
@@ -140,7 +150,23 @@ module _ (net : Net) (v : Visible) (m : Message) (lines : List Draft) where
   unopposed e k d = conflict-none (net .depth) (v .held) (v .book k) (m .bound) (m .tx) k (lines-clear _ lines e k d)
 
   -- a home objects to a line that has a conflict
-  pub opposed : (a : Objection) → objection net v m lines ≡ Some a → Drafted lines (a .key) × Conflicts net v m (a .key)
+  pub opposed : (a : Objection) → objection net v m lines ≡ Some a → Drafted lines (a .key) × Evidence net v m (a .key) (a .conflict)
   opposed a e =
       let r = lines-found _ lines a e in
-      (r .0, conflict-some (net .depth) (v .held) (v .book (a .key)) (m .bound) (m .tx) (a .key) (a .conflict) (r .1))
+      (r .0, conflict-some net v m (a .key) (a .conflict) (r .1))
+
+-- ## What a conflict says
+
+-- nothing is said of the holder's origin
+abbrev pub Any : ℕ → ℕ → Type 0
+Any o w = Unit {0}
+
+pub says-map : {R R′ : ℕ → Type 0} {H : ℕ → ℕ → Type 0} {N N′ : ℕ → ℕ → ℕ → Type 0} {D D′ : Type 0} → ((j : ℕ) → R j → R′ j) → ((o w n : ℕ) → N o w n → N′ o w n) → (D → D′) → (c : told.Conflict) → ((o w : ℕ) → c ≡ HeldBy o w → H o w) → Says R Any N D c → Says R′ H N′ D′ c
+says-map r n d (HeldBy o w) h x = (r w (x .0), h o w refl)
+says-map r n d (Newer o w k) h x = (r w (x .0), n o w k (x .1))
+says-map r n d Full h x = d x
+
+pub says-one : (R : ℕ → Type 0) (H : ℕ → ℕ → Type 0) (N : ℕ → ℕ → ℕ → Type 0) (D : Type 0) → (c : told.Conflict) → Says R H N D c → ((j : ℕ) × R j) ⊎ D
+says-one R H N D (HeldBy o w) x = inl (w, x .0)
+says-one R H N D (Newer o w n) x = inl (w, x .0)
+says-one R H N D Full x = inr x

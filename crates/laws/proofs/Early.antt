@@ -13,7 +13,8 @@ use Rattle.tables.specs.declared.Call.{Call}
 use Rattle.tables.specs.declared.Told.{Told}
 use Rattle.tables.specs.declared.Phase.the-variants.{Waiting, Closing, Granted, Refused, Dropped}
 use Rattle.laws.specs.Lists.{put, In, either}
-use Rattle.laws.specs.Net.{Record, Placement, Net, _⊑_, Seen, is-ballot}
+use Rattle.laws.specs.Net.{Record, Placement, Net, _⊑_, is-ballot}
+use Rattle.laws.proofs.Log.{Seen}
 use Rattle.laws.proofs.Model.{Logged, State, after-step, next, noting, on, placing, start, then}
 use Rattle.laws.specs.Rules.{Rule, Step, agrees, asks, begins, closes, closes-empty, counts, drafts, drops, fails, grants, receives, releases, reads-own, obeys, objects, refuses, replies, takes-in}
 use Rattle.laws.specs.State.{granted-record, placement, Visible}

@@ -1,7 +1,7 @@
 -- The examples. Assumes nothing.
 use mathlib.Core.Path.{refl}
 use mathlib.Core.List.{[], _∷_}
-use Prim.Native.Nat.{ℕ, _≤_}
+use Prim.Native.Nat.{_≤_}
 use native.Mathlib.Omega.{arith}
 use Rattle.clocks.proofs.Covering.{covers-true}
 use Rattle.laws.specs.Examples.{Examples}

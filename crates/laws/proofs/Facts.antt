@@ -11,8 +11,12 @@ use Rattle.clocks.specs.declared.Version.{Version}
 use Rattle.messages.specs.declared.Draft.{Draft}
 use Rattle.tables.specs.declared.Phase.the-variants.{Granted, Refused}
 use Rattle.messages.specs.declared.Objection.{Objection}
+use Rattle.messages.specs.declared.Conflict.the-variants.{Held as HeldBy}
+use Rattle.laws.proofs.Conflicts.{Any}
+use Rattle.laws.specs.Laws.{Says}
+use Rattle.laws.proofs.Log.{Is-placed, versions, wrote, count, Seen}
 use Rattle.laws.specs.Lists.{In}
-use Rattle.laws.specs.Net.{Clock, Message, granted, Placement, Net, Drafted, versions, wrote, count, Seen, has-closed}
+use Rattle.laws.specs.Net.{Clock, Message, granted, Placement, Net, Drafted, has-closed}
 use Rattle.laws.proofs.Model.{Answered, Logged, State}
 use Rattle.laws.specs.Words.{Event, placed-as}
 
@@ -52,7 +56,8 @@ pub record Unseen-rival (s : State) (i k j : ℕ) : Type 0 where
 pub record Refused-for (net : Net) (s : State) (i : ℕ) (a : Objection) : Type 0 where
   pub named : s .vis .records i .named ≡ Some a
   pub drafted : Drafted (s .vis .records i .drafts) (a .key)
-  pub cause : ((j : ℕ) × Unseen-rival s i (a .key) j) ⊎ (length (s .vis .book (a .key)) ≡ net .depth)
+  pub cause : Says (Unseen-rival s i (a .key)) Any (Is-placed (s .placed)) (length (s .vis .book (a .key)) ≡ net .depth) (a .conflict)
+  pub holder : (o w : ℕ) → a .conflict ≡ HeldBy o w → s .vis .records w .origin ≡ o
 
 -- every tower has taken in whatever is placed
 abbrev pub Settled : State → Type 0

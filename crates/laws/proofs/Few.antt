@@ -10,7 +10,8 @@ use lib.ListN.{length}
 use Rattle.std.proofs.shelf.Tests.{eq-eqb, ne-eqb, cases-eq}
 use Rattle.tables.specs.declared.Phase.the-variants.{Dropped}
 use Rattle.laws.specs.Lists.{In, tally}
-use Rattle.laws.specs.Net.{Net, count}
+use Rattle.laws.specs.Net.{Net}
+use Rattle.laws.proofs.Log.{count}
 use Rattle.laws.specs.Words.{Event}
 use Rattle.laws.specs.History.{placedIn, begunIn, originIn, Earlier}
 use Rattle.laws.specs.Rules.{Run}

@@ -15,7 +15,9 @@ use Rattle.tables.specs.declared.Phase.{Phase}
 use Rattle.tables.specs.declared.Phase.the-variants.{Open, Waiting, Closing, Granted, Refused, Dropped}
 use Rattle.messages.specs.declared.Objection.{Objection}
 use Rattle.laws.specs.Lists.{put, In, At, without, tally}
-use Rattle.laws.specs.Net.{Clock, Record, query, answer, vote, refused, Message, Placement, Net, Drafted, versions, newest-within, has-closed}
+use Rattle.laws.specs.Net.{Clock, Record, query, answer, vote, refused, Message, Placement, Net, Drafted, newest-within, has-closed}
+use Rattle.laws.proofs.Conflicts.{says-map}
+use Rattle.laws.proofs.Log.{versions}
 use Rattle.laws.proofs.Model.{Answered}
 use Rattle.laws.specs.Words.{placed-as, granted-to, freed}
 use Rattle.laws.proofs.Lists.{put-other, put-case, put-all, in-left, in-append, in-without, in-rest, in-those, those-in, tally-append, tally-at, tally-none}
@@ -59,20 +61,12 @@ holders-same net I J P cs book held e g = record {
   after = g .after;
 }
 
-pub justified-same : (net : Net) (I J : Intents) (P : List Placement) (book : ℕ → List Version) (i k : ℕ) → Same I J → Justified net I P book i k → Justified net J P book i k
-justified-same net I J P book i k e g = record {
-  drafted = rw (e i k (g .drafted)) (g .drafted);
-  cause = elim (g .cause) [
-    | inl c ↦ inl (
-      c .0,
-      record {
-        other = c .1 .other;
-        drafted = rw (e (c .0) k (c .1 .drafted)) (c .1 .drafted);
-        outside = rw (e i k (g .drafted)) (c .1 .outside);
-      },
-    )
-    | inr c ↦ inr c
-  ];
+pub justified-same : (net : Net) (I J : Intents) (P : List Placement) (book : ℕ → List Version) (i : ℕ) (a : Objection) → Same I J → Justified net I P book i a → Justified net J P book i a
+justified-same net I J P book i a e g = record {
+  drafted = rw (e i (a .key) (g .drafted)) (g .drafted);
+  cause = says-map
+      (λ j c. record { other = c .other; drafted = rw (e j (a .key) (c .drafted)) (c .drafted); outside = rw (e i (a .key) (g .drafted)) (c .outside) })
+      (λ o w n x. x) (λ x. x) (a .conflict) (λ o w _. tt) (g .cause);
 }
 
 -- ## A record that was not shut, amended
@@ -130,13 +124,13 @@ reads-put net P rs i r air ds e f g =
 
 pub refusals-put : (net : Net) (P : List Placement) (rs : ℕ → Record) (i : ℕ) (r : Record) (book : ℕ → List Version) (air : List Message) →
     Same (intents rs) (intents (put rs i r)) →
-    ((k : Objection) → has-closed (r .phase) ≡ true → r .named ≡ Some k → Justified net (intents rs) P book i (k .key)) →
+    ((k : Objection) → has-closed (r .phase) ≡ true → r .named ≡ Some k → Justified net (intents rs) P book i k) →
     (r .phase ≡ Refused → (k : Objection) × (r .named ≡ Some k)) →
     Refusals net P rs book air → Refusals net P (put rs i r) book air
 refusals-put net P rs i r book air e n f g = record {
-  voted = λ m k h b. justified-same net (intents rs) (intents (put rs i r)) P book (m .tx) (k .key) e (g .voted m k h b);
-  named = λ j k a b. justified-same net (intents rs) (intents (put rs i r)) P book j (k .key) e
-      (put-case (λ j x. has-closed (x .phase) ≡ true → x .named ≡ Some k → Justified net (intents rs) P book j (k .key)) rs i r (n k) (λ j _. g .named j k) j a b);
+  voted = λ m k h b. justified-same net (intents rs) (intents (put rs i r)) P book (m .tx) k e (g .voted m k h b);
+  named = λ j k a b. justified-same net (intents rs) (intents (put rs i r)) P book j k e
+      (put-case (λ j x. has-closed (x .phase) ≡ true → x .named ≡ Some k → Justified net (intents rs) P book j k) rs i r (n k) (λ j _. g .named j k) j a b);
   refused = put-case (λ j x. x .phase ≡ Refused → (k : Objection) × (x .named ≡ Some k)) rs i r f (λ j _. g .refused j);
 }
 
@@ -230,7 +224,7 @@ outcomes-sent net P cs air ms e g = record {
 pub refusals-landed : (net : Net) (P : List Placement) (rs : ℕ → Record) (book : ℕ → List Version) (air : List Message) (p : ℕ) → Refusals net P rs book air → Refusals net P rs book (without air p)
 refusals-landed net P rs book air p g = record { voted = λ m k h. g .voted m k (in-without air p m h); named = g .named; refused = g .refused }
 
-pub refusals-sent : (net : Net) (P : List Placement) (rs : ℕ → Record) (book : ℕ → List Version) (air ms : List Message) → ((m : Message) (k : Objection) → In m ms → m .body ≡ vote (Some k) → Justified net (intents rs) P book (m .tx) (k .key)) → Refusals net P rs book air → Refusals net P rs book (air ++ ms)
+pub refusals-sent : (net : Net) (P : List Placement) (rs : ℕ → Record) (book : ℕ → List Version) (air ms : List Message) → ((m : Message) (k : Objection) → In m ms → m .body ≡ vote (Some k) → Justified net (intents rs) P book (m .tx) k) → Refusals net P rs book air → Refusals net P rs book (air ++ ms)
 refusals-sent net P rs book air ms e g = record {
   voted = λ m k h b. elim (in-append m air ms h) [ inl h ↦ g .voted m k h b | inr h ↦ e m k h b ];
   named = g .named;

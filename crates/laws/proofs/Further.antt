@@ -13,7 +13,8 @@ use Rattle.messages.specs.declared.Draft.{Draft}
 use Rattle.tables.specs.declared.Phase.{Phase}
 use Rattle.tables.specs.declared.Phase.the-variants.{Open, Waiting, Closing, Granted, Refused, Dropped}
 use Rattle.laws.specs.Lists.{In, tally}
-use Rattle.laws.specs.Net.{Clock, Record, Body, query, answer, prepare, vote, granted, refused, Message, Placement, Net, _⊑_, Drafted, wrote, versions, taken, Seen, seen, has-closed, ballots, is-ballot}
+use Rattle.laws.specs.Net.{Clock, Record, Body, query, answer, prepare, vote, granted, refused, Message, Placement, Net, _⊑_, Drafted, has-closed, ballots, is-ballot}
+use Rattle.laws.proofs.Log.{wrote, versions, taken, Seen, seen}
 use Rattle.laws.proofs.Model.{Logged, State, log-of}
 use Rattle.laws.specs.Words.{homed, granted-to, Event}
 use Rattle.laws.specs.History.{placedIn, begunIn, placedBeforeIn, originIn, draftsIn, Within, Outside}

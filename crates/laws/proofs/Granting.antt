@@ -14,13 +14,14 @@ use Rattle.messages.specs.declared.Draft.{Draft}
 use Rattle.tables.specs.declared.Held.{Held}
 use Rattle.tables.specs.declared.Phase.the-variants.{Waiting, Closing, Granted, Refused, Dropped}
 use Rattle.messages.specs.declared.Objection.{Objection}
-use Rattle.laws.proofs.Conflicts.{none-some, either-none}
+use Rattle.laws.proofs.Conflicts.{none-some, either-none, says-map}
 use Rattle.laws.specs.State.{granted-record, placement}
 use Rattle.laws.specs.Lists.{put, In, At, without, either}
-use Rattle.laws.specs.Net.{Clock, Record, vote, granted, refused, Message, Placement, Net, _⊑_, Drafted, taken, count, Seen, seen, has-closed}
+use Rattle.laws.specs.Net.{Clock, Record, vote, granted, refused, Message, Placement, Net, _⊑_, Drafted, has-closed}
+use Rattle.laws.proofs.Log.{taken, count, Seen, seen}
 use Rattle.laws.proofs.Model.{Answered, State, on, placing}
 use Rattle.laws.specs.Rules.{Ripe, asked, closed, granting, took, voted}
-use Rattle.laws.specs.Words.{voting, placed-as, homed, freed, granted-to, grants-to}
+use Rattle.laws.specs.Words.{placed-as, homed, freed, granted-to, grants-to}
 use Rattle.laws.proofs.Lists.{put-same, put-other, put-case, in-left, in-right, in-append, in-at, in-without, in-rest, none-left}
 use Rattle.laws.proofs.Placed.{Numbered, Ordered, Closed, count-self, count-grows, number-le, number-pos, new-unseen, shown-new, closed-new}
 use Rattle.laws.proofs.Invariant.{Intent, Intents, intents, is-read, is-ballot, is-granted, is-refused, polled, reads, ballots, Fair, Bounds, Books, Holds, Holders, Granteds, Reads, Outcomes, Justified, Refusals, Invariant}
@@ -157,20 +158,16 @@ module _ (P : List Placement) (T : Placement) (n : T .number ≡ suc (count P (T
     shown = λ d h. g .shown d h ∙ sym (shown-new (rs (d .tx) .bound) T P (d .key) (unseen (rs (d .tx) .bound) (f (d .tx))));
   }
 
-  justified-new : (net : Net) (I : Intents) (book : ℕ → List Version) (i k : ℕ) → Fair P (I i .bound) → Justified net I P book i k → Justified net I (T ∷ P) book i k
-  justified-new net I book i k f g = record {
+  justified-new : (net : Net) (I : Intents) (book : ℕ → List Version) (i : ℕ) (a : Objection) → Fair P (I i .bound) → Justified net I P book i a → Justified net I (T ∷ P) book i a
+  justified-new net I book i a f g = record {
     drafted = g .drafted;
-    cause = elim (g .cause) [
-      | inl c ↦ inl (
-        c .0,
-        record {
-          other = c .1 .other;
-          drafted = c .1 .drafted;
-          outside = λ E l. elim l [ inl e ↦ λ _ s. unseen (I i .bound) f (subst (λ (x : Placement). Seen x (I i .bound)) e s) | inr l ↦ c .1 .outside E l ];
-        },
-      )
-      | inr c ↦ inr c
-    ];
+    cause = says-map
+        (λ j c. record {
+          other = c .other;
+          drafted = c .drafted;
+          outside = λ E l. elim l [ inl e ↦ λ _ s. unseen (I i .bound) f (subst (λ (x : Placement). Seen x (I i .bound)) e s) | inr l ↦ c .outside E l ];
+        })
+        (λ o w n x. (x .0, inr (x .1), x .2, x .3, x .4)) (λ x. x) (a .conflict) (λ o w _. tt) (g .cause);
   }
 
   -- an intent's bound is a bound
@@ -182,8 +179,8 @@ module _ (P : List Placement) (T : Placement) (n : T .number ≡ suc (count P (T
 
   refusals-new : (net : Net) (rs : ℕ → Record) (book : ℕ → List Version) (air : List Message) → Numbered P → Bounds P rs → Refusals net P rs book air → Refusals net (T ∷ P) rs book air
   refusals-new net rs book air m f g = record {
-    voted = λ x k h b. justified-new net (intents rs) book (x .tx) (k .key) (fair-intent rs (x .tx) m f) (g .voted x k h b);
-    named = λ i k a b. justified-new net (intents rs) book i (k .key) (fair-intent rs i m f) (g .named i k a b);
+    voted = λ x k h b. justified-new net (intents rs) book (x .tx) k (fair-intent rs (x .tx) m f) (g .voted x k h b);
+    named = λ i k a b. justified-new net (intents rs) book i k (fair-intent rs i m f) (g .named i k a b);
     refused = g .refused;
   }
 
@@ -292,7 +289,7 @@ grants-keeps net s p m named v ripe e one q =
           (reads-put net P (s .vis .records) i r rest (s .readings) (differ Closing Waiting refl c) (λ q. (q, refl)) (reads-landed net P (s .vis .records) (s .vis .air) (s .readings) p m a (v .reads))));
       outcomes = outcomes-new P T cs n refl net rest (outcomes-landed net P cs (s .vis .air) p m a (ap is-granted e) (v .outcomes));
       refusals = refusals-sent net (T ∷ P) rs (added net (s .vis .book) o T) rest ms
-          (λ x j. each (λ x. x .body ≡ vote (Some j) → Justified net (intents rs) (T ∷ P) (added net (s .vis .book) o T) (x .tx) (j .key)) (λ t b. absurd (both-ways false refl (ap is-ballot b))) x)
+          (λ x j. each (λ x. x .body ≡ vote (Some j) → Justified net (intents rs) (T ∷ P) (added net (s .vis .book) o T) (x .tx) j) (λ t b. absurd (both-ways false refl (ap is-ballot b))) x)
           (refusals-full net (T ∷ P) rs (s .vis .book) (added net (s .vis .book) o T) rest
           (added-full net (intents rs) (T ∷ P) cs (s .vis .book) (s .vis .held) o T numbered once (inl refl) refl holders)
           (refusals-new P T n net rs (s .vis .book) rest (v .order .numbered) bounds

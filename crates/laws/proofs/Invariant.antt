@@ -13,8 +13,11 @@ use Rattle.messages.specs.declared.Draft.{Draft}
 use Rattle.messages.specs.declared.Objection.{Objection}
 use Rattle.tables.specs.declared.Held.{Held}
 use Rattle.tables.specs.declared.Phase.the-variants.{Waiting, Closing, Granted, Refused}
+use Rattle.laws.proofs.Conflicts.{Any}
+use Rattle.laws.proofs.Log.{Is-placed, versions, taken, count, Seen}
+use Rattle.laws.specs.Laws.{Says}
 use Rattle.laws.specs.Lists.{In, tally}
-use Rattle.laws.specs.Net.{Clock, Record, Body, query, answer, prepare, vote, granted, refused, Message, Placement, Net, _⊑_, Drafted, versions, taken, count, Seen, newest-within, has-closed}
+use Rattle.laws.specs.Net.{Clock, Record, Body, query, answer, prepare, vote, granted, refused, Message, Placement, Net, _⊑_, Drafted, newest-within, has-closed}
 use Rattle.laws.proofs.Model.{Answered, State}
 use Rattle.laws.specs.Words.{blank, placed-as, homed, granted-to}
 use Rattle.laws.proofs.Placed.{Numbered, Ordered, Closed}
@@ -144,13 +147,13 @@ pub record Rival (I : Intents) (P : List Placement) (i k j : ℕ) : Type 0 where
   pub drafted : Drafted (I j .drafts) k
   pub outside : (E : Placement) → In E P → E .tx ≡ j → Seen E (I i .bound) → ⊥
 
-pub record Justified (net : Net) (I : Intents) (P : List Placement) (book : ℕ → List Version) (i k : ℕ) : Type 0 where
-  pub drafted : Drafted (I i .drafts) k
-  pub cause : ((j : ℕ) × Rival I P i k j) ⊎ (length (book k) ≡ net .depth)
+pub record Justified (net : Net) (I : Intents) (P : List Placement) (book : ℕ → List Version) (i : ℕ) (a : Objection) : Type 0 where
+  pub drafted : Drafted (I i .drafts) (a .key)
+  pub cause : Says (Rival I P i (a .key)) Any (Is-placed P) (length (book (a .key)) ≡ net .depth) (a .conflict)
 
 pub record Refusals (net : Net) (P : List Placement) (rs : ℕ → Record) (book : ℕ → List Version) (air : List Message) : Type 0 where
-  pub voted : (m : Message) (k : Objection) → In m air → m .body ≡ vote (Some k) → Justified net (intents rs) P book (m .tx) (k .key)
-  pub named : (i : ℕ) (k : Objection) → has-closed (rs i .phase) ≡ true → rs i .named ≡ Some k → Justified net (intents rs) P book i (k .key)
+  pub voted : (m : Message) (k : Objection) → In m air → m .body ≡ vote (Some k) → Justified net (intents rs) P book (m .tx) k
+  pub named : (i : ℕ) (k : Objection) → has-closed (rs i .phase) ≡ true → rs i .named ≡ Some k → Justified net (intents rs) P book i k
   pub refused : (i : ℕ) → rs i .phase ≡ Refused → (k : Objection) × (rs i .named ≡ Some k)
 
 pub record Invariant (net : Net) (s : State) : Type 0 where

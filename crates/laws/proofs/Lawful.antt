@@ -15,13 +15,15 @@ use Rattle.tables.specs.declared.Phase.the-variants.{Granted, Dropped}
 use Rattle.messages.specs.declared.Objection.{Objection}
 use Rattle.tables.specs.declared.Reading.{Reading}
 use Rattle.laws.specs.Lists.{In, tally, last-of, either}
-use Rattle.laws.specs.Net.{Clock, Placement, Net, Drafted, versions, count, Seen, inside, newest-within}
+use Rattle.laws.specs.Net.{Clock, Placement, Net, Drafted, inside, newest-within}
+use Rattle.laws.proofs.Conflicts.{says-map, says-one}
+use Rattle.laws.proofs.Log.{versions, count, Seen}
 use Rattle.laws.proofs.Model.{Answered, State, log-of}
 use Rattle.laws.specs.Words.{Event}
 use Rattle.laws.proofs.Facts.{Facts, Before, Refused-for}
 use Rattle.laws.specs.History.{placedIn, Earlier, originIn, draftsIn, number-after, number-of, numberIn, Within, Outside, versions-of, versionsIn, Received}
 use Rattle.laws.specs.State.{Visible}
-use Rattle.laws.specs.Laws.{Last-within, Showed, Each-showed, Cause, Laws, Laws-stand}
+use Rattle.laws.specs.Laws.{Last-within, Showed, Each-showed, Rival, Cause, Laws, Laws-stand}
 use Rattle.laws.proofs.Placed.{Numbered, number-new}
 use Rattle.laws.proofs.Invariant.{Invariant}
 use Rattle.laws.proofs.Frames.{placed-once, differ}
@@ -174,22 +176,14 @@ module _ (net : Net) (h : List Event) (s : State) (v : Invariant net s) (l : Lin
   ]
 
   cause-of : (i : ℕ) (k : Objection) → Refused-for net s i k → Cause net h (s .vis) i k
-  cause-of i k c = record {
-    named = c .named;
-    drafted = rw (l .drafts i) at (c .drafted);
-    cause = elim (c .cause) [
-      | inl x ↦ inl (
-        x .0,
-        record {
-          other = x .1 .other;
-          closed = x .1 .asked;
-          drafted = rw (l .drafts (x .0)) at (x .1 .drafted);
-          outside = outside-of (x .0) (s .vis .records i .bound) (x .1 .outside);
-        },
-      )
-      | inr f ↦ inr f
-    ];
-  }
+  cause-of i k c =
+      let so = says-map {R′ = Rival h (s .vis) i (k .key)} {H = λ o w. originIn h w ≡ o} {N′ = λ o w n. (originIn h w ≡ o) × (numberIn h w ≡ Some n)} (λ j x. record {
+        other = x .other;
+        closed = x .asked;
+        drafted = rw (l .drafts j) at (x .drafted);
+        outside = outside-of j (s .vis .records i .bound) (x .outside);
+      }) (λ o w n x. (sym (origin-is (x .0) w (x .1) (x .2)) ∙ x .3, ap (numberIn h) (sym (x .2)) ∙ numbered-as (x .0) (x .1) ∙ ap Some (x .4))) (λ x. x) (k .conflict) (λ o w e. sym (l .origins w) ∙ c .holder o w e) (c .cause) in
+      record { named = c .named; drafted = rw (l .drafts i) at (c .drafted); cause = says-one _ _ _ _ (k .conflict) so; told = so }
 
   placed-ordered : Facts net s → (x y k : ℕ) → Earlier x y (placedIn h) → Drafted (draftsIn h x) k → Drafted (draftsIn h y) k → Within h x (s .vis .records y .bound)
   placed-ordered f x y k g dx dy =

@@ -1,4 +1,5 @@
 pub mod Lists
+pub mod Log
 pub mod Model
 pub mod Conflicts
 pub mod Placed
@@ -11,6 +12,7 @@ pub mod Voting
 pub mod TakeIn
 pub mod Granting
 pub mod Shown
+pub mod Origins
 pub mod Stand
 pub mod Ranges
 pub mod Histories
@@ -22,11 +24,12 @@ pub mod Early
 pub mod Further
 pub mod Few
 pub mod Kept
-pub mod View
 pub mod Fits
 pub mod Carry
 pub mod Answering
 pub mod Determined
 pub mod Capacity
+pub mod View
 pub mod Examples
-mod Pair
+pub mod Play
+mod Runs

@@ -1,15 +1,13 @@
 -- A visible state with a log of what was placed and shown, and the log of a run. Assumes nothing.
 use mathlib.Core.Path.{_≡_, refl, sym, subst}
 use mathlib.Core.List.{List, [], _∷_}
-use Prim.Native.Nat.{ℕ, suc}
+use Prim.Native.Nat.{ℕ}
 use Rattle.std.specs.declared.option.Option.{Option}
-use Rattle.std.specs.declared.option.Option.the-variants.{None}
 use Rattle.clocks.specs.declared.Version.{Version}
-use Rattle.tables.specs.declared.Phase.the-variants.{Granted}
 use Rattle.tables.specs.declared.Call.{Call}
 use Rattle.tables.specs.declared.Told.{Told}
 use Rattle.laws.specs.Net.{Placement, Net}
-use Rattle.laws.specs.Words.{voting, placed-as, Event}
+use Rattle.laws.specs.Words.{Event}
 use Rattle.laws.specs.State.{placement, Visible, new}
 use Rattle.laws.specs.Rules.{Rule, Step, fails, obeys, begins, reads-own, asks, drafts, drops, closes-empty, closes, replies, receives, agrees, objects, counts, grants, refuses, takes-in, releases}
 use Rattle.laws.specs.Rules as rules

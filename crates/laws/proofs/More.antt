@@ -20,7 +20,8 @@ use Rattle.messages.specs.declared.Objection.{Objection}
 use Rattle.laws.proofs.Conflicts.{either-none}
 use Rattle.clocks.specs.declared.Content.{Content}
 use Rattle.laws.specs.Lists.{put, In, At, without, tally, those, either}
-use Rattle.laws.specs.Net.{Clock, Record, query, answer, prepare, vote, granted, refused, Message, Placement, Net, _⊑_, Drafted, written, Seen, newest-within, is-ballot, is-granted}
+use Rattle.laws.specs.Net.{Clock, Record, query, answer, prepare, vote, granted, refused, Message, Placement, Net, _⊑_, Drafted, written, newest-within, is-ballot, is-granted}
+use Rattle.laws.proofs.Log.{Seen}
 use Rattle.laws.proofs.Model.{Logged, State, by-step, next, noting, on, placing, start, then}
 use Rattle.laws.specs.Rules.{Ripe, Rule, agrees, asks, begins, begun-at, closed, closes, closes-empty, counts, drafts, drops, grants, receives, releases, reads-own, objects, refuses, replies, takes-in}
 use Rattle.laws.specs.State.{granted-record, placement, Visible, amended}

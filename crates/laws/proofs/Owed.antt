@@ -9,7 +9,8 @@ use lib.Dec.{eqb}
 use Rattle.std.proofs.shelf.Tests.{eq-eqb, ne-eqb, eqb-true, cases-eq, cases-bool, both-ways, and-parts, and-from, and-left, and-right}
 use Rattle.messages.specs.declared.Draft.{Draft}
 use Rattle.laws.specs.Lists.{put, In, At, without, tally}
-use Rattle.laws.specs.Net.{Clock, Body, query, answer, prepare, vote, granted, refused, Message, Placement, Net, _⊑_, count, Seen, is-granted, pending-of}
+use Rattle.laws.specs.Net.{Clock, Body, query, answer, prepare, vote, granted, refused, Message, Placement, Net, _⊑_, is-granted, pending-of}
+use Rattle.laws.proofs.Log.{count, Seen}
 use Rattle.laws.specs.Words.{granted-to, grants-to}
 use Rattle.laws.proofs.Lists.{put-same, put-other, in-append, in-without, tally-append, tally-at, tally-in, tally-none, none-left}
 use Rattle.laws.proofs.Placed.{Numbered, new-unseen, seen-or-same}

@@ -11,7 +11,8 @@ use Rattle.std.proofs.shelf.Tests.{eq-eqb, ne-eqb, cases-eq, cases-bool, cond-f
 use Rattle.clocks.specs.declared.Version.{Version}
 use Rattle.messages.specs.declared.Draft.{Draft}
 use Rattle.laws.specs.Lists.{put, In, either}
-use Rattle.laws.specs.Net.{Clock, Placement, _⊑_, Drafted, written, wrote, versions, taken, count, Seen, seen, inside, newest, newest-within}
+use Rattle.laws.specs.Net.{Clock, Placement, _⊑_, Drafted, written, inside, newest, newest-within}
+use Rattle.laws.proofs.Log.{wrote, versions, taken, count, Seen, seen}
 pub use Rattle.laws.proofs.Facts.{Numbered}
 use Rattle.laws.proofs.Lists.{put-same, put-other, put-case, last-append}
 

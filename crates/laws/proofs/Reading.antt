@@ -12,7 +12,8 @@ use Rattle.std.proofs.shelf.Tests.{eq-eqb, cond-true, cond-false, both-ways, an
 use Rattle.clocks.specs.declared.Version.{Version}
 use Rattle.tables.specs.declared.Phase.the-variants.{Open, Waiting, Closing, Granted, Refused, Dropped}
 use Rattle.laws.specs.Lists.{put, In, At, without}
-use Rattle.laws.specs.Net.{Clock, Record, Body, query, answer, vote, refused, Message, Net, _⊑_, versions, newest-within, has-closed}
+use Rattle.laws.specs.Net.{Clock, Record, Body, query, answer, vote, refused, Message, Net, _⊑_, newest-within, has-closed}
+use Rattle.laws.proofs.Log.{versions}
 use Rattle.laws.proofs.Model.{Answered, State, noting, on}
 use Rattle.laws.specs.Rules.{Ripe, asked, closed, received, replied}
 use Rattle.laws.specs.Words.{reading-at, message}
@@ -83,7 +84,7 @@ replies-keeps net s p m k first v ripe e =
       outcomes = outcomes-sent net P (s .vis .clocks) rest (q ∷ []) (only (λ x. is-granted (x .body) ≡ false) q refl)
           (outcomes-landed net P (s .vis .clocks) (s .vis .air) p m a (ap is-granted e) (v .outcomes));
       refusals = refusals-sent net P rs (s .vis .book) rest (q ∷ [])
-          (λ x j. only (λ x. x .body ≡ vote (Some j) → Justified net (intents rs) P (s .vis .book) (x .tx) (j .key)) q (λ e. absurd (both-ways false refl (ap is-ballot e))) x)
+          (λ x j. only (λ x. x .body ≡ vote (Some j) → Justified net (intents rs) P (s .vis .book) (x .tx) j) q (λ e. absurd (both-ways false refl (ap is-ballot e))) x)
           (refusals-landed net P rs (s .vis .book) (s .vis .air) p (v .refusals));
     }
 

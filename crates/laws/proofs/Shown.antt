@@ -12,7 +12,8 @@ use Rattle.std.proofs.shelf.Tests.{eqb-false, cases-bool, leb-true, leb-false}
 use Rattle.clocks.specs.declared.Version.{Version}
 use Rattle.messages.specs.declared.Draft.{Draft}
 use Rattle.laws.specs.Lists.{In, last-of, either}
-use Rattle.laws.specs.Net.{Clock, Placement, Drafted, written, wrote, versions, Seen, inside, newest-within}
+use Rattle.laws.specs.Net.{Clock, Placement, Drafted, written, inside, newest-within}
+use Rattle.laws.proofs.Log.{wrote, versions, Seen}
 use Rattle.laws.proofs.Facts.{Numbered, Before, Right}
 use Rattle.laws.proofs.Lists.{last-append}
 use Rattle.laws.proofs.Placed.{number-new}

@@ -9,9 +9,11 @@ use Rattle.std.specs.declared.option.Option.the-variants.{Some}
 use Rattle.std.proofs.shelf.Tests.{cases-eq, cases-bool, both-ways, leb-true, leb-false}
 use Rattle.tables.specs.declared.Phase.the-variants.{Closing, Refused, Dropped}
 use Rattle.messages.specs.declared.Objection.{Objection}
-use Rattle.laws.proofs.Conflicts.{unopposed, opposed}
+use Rattle.laws.proofs.Conflicts.{unopposed, opposed, says-map, none-some}
+use Rattle.laws.proofs.Origins.{Sound, Origins-of, rule-origins}
 use Rattle.laws.specs.Lists.{In}
-use Rattle.laws.specs.Net.{Record, refused, Placement, Net, Drafted, Seen, seen, has-closed}
+use Rattle.laws.specs.Net.{Record, refused, Placement, Net, Drafted, has-closed}
+use Rattle.laws.proofs.Log.{Seen, seen}
 use Rattle.laws.proofs.Model.{Logged, State, by-step, first, next, noting, on, placing, start, then}
 use Rattle.laws.specs.Rules.{Rule, agrees, asked, asks, begins, closed, closes, closes-empty, counts, drafts, drops, grants, receives, releases, reads-own, objects, refuses, replies, takes-in, voted}
 use Rattle.laws.specs.State.{placement, Visible}
@@ -90,6 +92,10 @@ pub run-holds : (net : Net) {h : List Event} {s : State} → Logged net h s → 
 run-holds net start = new-holds net
 run-holds net (then {s = s} r x) = by-step net (Invariant net) s (run-holds net r) (rule-keeps net (run-holds net r)) x
 
+pub run-origins : (net : Net) {h : List Event} {s : State} → Logged net h s → Origins-of s
+run-origins net start = record { held = λ h q. absurd q; voted = λ m a q. absurd q; named = λ i a q. absurd (none-some refl q) }
+run-origins net (then {s = s} r x) = by-step net Origins-of s (run-origins net r) (rule-origins net s (run-holds net r) (run-origins net r)) x
+
 -- ## The facts
 
 before-seen : (P : List Placement) (E T : Placement) (k : ℕ) → Ordered P → Before E T P → Drafted (E .drafts) k → Drafted (T .drafts) k → Seen E (T .bound)
@@ -114,25 +120,16 @@ intent-drafted r k d = elim (cases-bool (has-closed (r .phase))) [
   | inr e ↦ absurd (no-intent r k e d)
 ]
 
-refused-for : (net : Net) (s : State) (i : ℕ) (k : Objection) → s .vis .records i .phase ≡ Refused → s .vis .records i .named ≡ Some k → Justified net (intents (s .vis .records)) (s .placed) (s .vis .book) i (k .key) → Refused-for net s i k
-refused-for net s i k c n g =
+refused-for : (net : Net) (s : State) (i : ℕ) (k : Objection) → s .vis .records i .phase ≡ Refused → s .vis .records i .named ≡ Some k → Justified net (intents (s .vis .records)) (s .placed) (s .vis .book) i k → Sound (s .vis .begun) (s .vis .records) k → Refused-for net s i k
+refused-for net s i k c n g hs =
     let is = intent-shut (s .vis .records i) (ap has-closed c) in
     record {
       named = n;
       drafted = intent-drafted (s .vis .records i) (k .key) (g .drafted) .1;
-      cause = elim (g .cause) [
-        | inl x ↦ (let d = intent-drafted (s .vis .records (x .0)) (k .key) (x .1 .drafted) in
-            inl (
-              x .0,
-              record {
-                other = x .1 .other;
-                asked = d .0;
-                drafted = d .1;
-                outside = λ E h t u. x .1 .outside E h t (rw is u);
-              },
-            ))
-        | inr f ↦ inr f
-      ];
+      cause = says-map (λ j x.
+          let d = intent-drafted (s .vis .records j) (k .key) (x .drafted) in
+          record { other = x .other; asked = d .0; drafted = d .1; outside = λ E h t u. x .outside E h t (rw is u) }) (λ o w n x. x) (λ x. x) (k .conflict) (λ o w _. tt) (g .cause);
+      holder = λ o w e. hs o w e .1;
     }
 
 pub facts-stand : Facts-stand
@@ -144,5 +141,5 @@ facts-stand net h s r =
       books = λ st k. v .books k ∙ taken-all (s .vis .clocks (net .home k)) (s .placed) k (settled-seen net s v st k);
       seen = λ E T k. before-seen (s .placed) E T k (v .order .ordered);
       shown = λ d l. rw (v .reads .shown d l) (shown-right (s .placed) (s .vis .records (d .tx) .bound) (d .key) (v .order .numbered));
-      refused = λ i c. let n = v .refusals .refused i c in (n .0, refused-for net s i (n .0) c (n .1) (v .refusals .named i (n .0) (ap has-closed c) (n .1)));
+      refused = λ i c. let n = v .refusals .refused i c in (n .0, refused-for net s i (n .0) c (n .1) (v .refusals .named i (n .0) (ap has-closed c) (n .1)) (run-origins net r .named i (n .0) (n .1)));
     }

@@ -12,7 +12,10 @@ use Rattle.clocks.specs.declared.Version.{Version}
 use Rattle.messages.specs.declared.Draft.{Draft}
 use Rattle.tables.specs.declared.Held.{Held}
 use Rattle.laws.specs.Lists.{put, In}
-use Rattle.laws.specs.Net.{Clock, Record, refused, Message, Placement, Net, _⊑_, Drafted, written, wrote, taken, count, Seen}
+use Rattle.laws.specs.Net.{Clock, Record, refused, Message, Placement, Net, _⊑_, Drafted, written}
+use Rattle.messages.specs.declared.Objection.{Objection}
+use Rattle.laws.proofs.Conflicts.{says-map}
+use Rattle.laws.proofs.Log.{wrote, taken, count, Seen}
 use Rattle.laws.specs.Words.{homed, freed}
 use Rattle.laws.specs.Rules.{voted}
 use Rattle.laws.proofs.Lists.{put-same, put-other, put-case, put-all}
@@ -110,12 +113,12 @@ module _ (net : Net) (I : Intents) (P : List Placement) (cs : ℕ → Clock) (bo
 
 -- ## The causes
 
-pub justified-full : (net : Net) (I : Intents) (P : List Placement) (book book′ : ℕ → List Version) → ((k : ℕ) → length (book k) ≡ net .depth → length (book′ k) ≡ net .depth) → (i k : ℕ) → Justified net I P book i k → Justified net I P book′ i k
-justified-full net I P book book′ f i k g = record { drafted = g .drafted; cause = elim (g .cause) [ inl c ↦ inl c | inr c ↦ inr (f k c) ] }
+pub justified-full : (net : Net) (I : Intents) (P : List Placement) (book book′ : ℕ → List Version) → ((k : ℕ) → length (book k) ≡ net .depth → length (book′ k) ≡ net .depth) → (i : ℕ) (a : Objection) → Justified net I P book i a → Justified net I P book′ i a
+justified-full net I P book book′ f i a g = record { drafted = g .drafted; cause = says-map (λ j x. x) (λ o w n x. x) (f (a .key)) (a .conflict) (λ o w _. tt) (g .cause) }
 
 pub refusals-full : (net : Net) (P : List Placement) (rs : ℕ → Record) (book book′ : ℕ → List Version) (air : List Message) → ((k : ℕ) → length (book k) ≡ net .depth → length (book′ k) ≡ net .depth) → Refusals net P rs book air → Refusals net P rs book′ air
 refusals-full net P rs book book′ air f g = record {
-  voted = λ m k h b. justified-full net (intents rs) P book book′ f (m .tx) (k .key) (g .voted m k h b);
-  named = λ i k a b. justified-full net (intents rs) P book book′ f i (k .key) (g .named i k a b);
+  voted = λ m k h b. justified-full net (intents rs) P book book′ f (m .tx) k (g .voted m k h b);
+  named = λ i k a b. justified-full net (intents rs) P book book′ f i k (g .named i k a b);
   refused = g .refused;
 }

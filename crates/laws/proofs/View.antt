@@ -5,13 +5,17 @@ use mathlib.Core.Bool.{Bool, true, false, cond}
 use mathlib.Core.Logic.{_⊎_, inl, inr}
 use Prim.Native.Nat.{ℕ, zero, suc, _+_, _-_, _≤_, _<_}
 use native.Mathlib.Omega.{arith}
-use lib.Dec.{eqb}
+use lib.Dec.{eqb, leb}
 use lib.ListN.{length, getD, set, take, drop}
 use Rattle.std.specs.shelf.Lists.{kept-by}
 use Rattle.std.proofs.shelf.Lists.{getD-set-same, getD-set-other, getD-append-left, getD-push, getD-past, length-push, take-more}
-use Rattle.std.proofs.shelf.Tests.{cases-eq, cases-lt, le-leb, lt-leb, eq-eqb, ne-eqb}
+use Rattle.std.proofs.shelf.Tests.{cases-eq, cases-lt, cases-bool, both-ways, and-from, le-leb, lt-leb, lt-ltb, le-ltb, eq-eqb, ne-eqb}
 use Rattle.std.specs.declared.option.Option.the-variants.{Some}
 use Rattle.clocks.specs.declared.Version.{Version}
+use Rattle.clocks.specs.Clocks.{Covers, covers, within}
+use Rattle.clocks.proofs.Covering.{covers-true, true-covers}
+use Rattle.laws.specs.Faults.{covers-first}
+use Rattle.laws.proofs.Answering.{covers-below}
 use Rattle.laws.specs.Lists.{put, At, without, those}
 use Rattle.messages.specs.declared.Draft.{Draft}
 use Rattle.laws.specs.Net.{Clock, written, inside, newest, newest-within}
@@ -138,3 +142,31 @@ newest-last (v ∷ w ∷ vs) d l = rw (newest-last (w ∷ vs) d (omega arith)) (
 
     e′ : suc (length vs) ≡ length (v ∷ w ∷ vs) - 1
     e′ = omega arith
+
+-- ## Clocks as lists
+
+first-covers : (n : ℕ) (c b : Clock) → ((j : ℕ) → b j ≤ c j) → covers-first n c b ≡ true
+first-covers zero c b f = refl
+first-covers (suc n) c b f = and-from (leb (b n) (c n)) _ (le-leb _ _ (f n)) (first-covers n c b f)
+
+-- the test of the rules is that of the lists
+pub covers-list : (n : ℕ) (c b : List ℕ) → length b ≤ n → covers-first n (clock-of c) (clock-of b) ≡ covers c b
+covers-list n c b l = go (cases-bool (covers c b)) (cases-bool (covers-first n (clock-of c) (clock-of b)))
+  where
+    below : covers-first n (clock-of c) (clock-of b) ≡ true → Covers c b
+    below e j = elim (cases-lt j n) [
+      | inl q ↦ covers-below n (clock-of c) (clock-of b) e j q
+      | inr q ↦ omega (arith, getD-past b j 0 (omega (arith, l, q)))
+    ]
+
+    go : (covers c b ≡ true) ⊎ (covers c b ≡ false) → (covers-first n (clock-of c) (clock-of b) ≡ true) ⊎ (covers-first n (clock-of c) (clock-of b) ≡ false) → covers-first n (clock-of c) (clock-of b) ≡ covers c b
+    go (inl t) x = first-covers n (clock-of c) (clock-of b) (covers-true c b t) ∙ sym t
+    go (inr f) (inr g) = g ∙ sym f
+    go (inr f) (inl g) = absurd (both-ways (covers c b) f (true-covers c b (below g)))
+
+-- a version that has a number is within a clock as it is within the list
+pub within-list : (b : List ℕ) (x : Version) → 1 ≤ x .number → inside (clock-of b) x ≡ within (x .origin) (x .number) b
+within-list b x l = elim (cases-lt (x .origin) (length b)) [
+  | inl q ↦ rw (lt-ltb _ _ q) refl
+  | inr q ↦ (let z : getD b (x .origin) 0 ≡ 0 = getD-past b (x .origin) 0 q in rw (le-ltb _ _ q) (lt-leb _ _ (omega (arith, l, z))))
+]

@@ -15,9 +15,13 @@ use Rattle.messages.specs.declared.Draft.{Draft}
 use Rattle.tables.specs.declared.Held.{Held}
 use Rattle.tables.specs.declared.Phase.the-variants.{Waiting, Closing, Granted, Refused, Dropped}
 use Rattle.messages.specs.declared.Objection.{Objection}
-use Rattle.laws.proofs.Conflicts.{Conflicts, taken-by, newer, full, either-cases, either-none}
+use Rattle.laws.proofs.Conflicts.{Conflicts, taken-by, newer, full, Evidence, either-cases, either-none, Any}
+use Rattle.messages.specs.declared.Conflict.{Conflict}
+use Rattle.messages.specs.declared.Conflict.the-variants.{Held as HeldBy, Newer, Full}
+use Rattle.laws.specs.Laws.{Says}
 use Rattle.laws.specs.Lists.{put, In, At, without, either}
-use Rattle.laws.specs.Net.{Clock, Record, prepare, vote, refused, Message, Placement, Net, _⊑_, Drafted, taken, Seen, seen, inside, newest, has-closed}
+use Rattle.laws.specs.Net.{Clock, Record, prepare, vote, refused, Message, Placement, Net, _⊑_, Drafted, inside, newest, has-closed}
+use Rattle.laws.proofs.Log.{taken, Seen, seen, Is-placed}
 use Rattle.laws.proofs.Model.{State, on}
 use Rattle.laws.specs.Rules.{Ripe, asked, closed, counted, released, refusing, voted}
 use Rattle.laws.specs.State.{holding}
@@ -164,7 +168,7 @@ agrees-keeps net s p m lines v ripe e none =
       reads = reads-sent net P rs rest (s .readings) (q ∷ []) (only (λ x. is-read (x .body) ≡ false) q refl) (reads-landed net P rs (s .vis .air) (s .readings) p m a (v .reads));
       outcomes = outcomes-sent net P (s .vis .clocks) rest (q ∷ []) (only (λ x. is-granted (x .body) ≡ false) q refl) (outcomes-landed net P (s .vis .clocks) (s .vis .air) p m a (ap is-granted e) (v .outcomes));
       refusals = refusals-sent net P rs (s .vis .book) rest (q ∷ [])
-          (λ x j. only (λ x. x .body ≡ vote (Some j) → Justified net (intents rs) P (s .vis .book) (x .tx) (j .key)) q (λ e. let z : _≡_ {A = ℕ} 0 1 = cc in absurd (omega arith)) x)
+          (λ x j. only (λ x. x .body ≡ vote (Some j) → Justified net (intents rs) P (s .vis .book) (x .tx) j) q (λ e. let z : _≡_ {A = ℕ} 0 1 = cc in absurd (omega arith)) x)
           (refusals-landed net P rs (s .vis .book) (s .vis .air) p (v .refusals));
     }
 
@@ -172,9 +176,9 @@ by-outside : (E : Placement) (w : Version) (b : Clock) → By E w → inside b w
 by-outside E w b y f = rw (y .number, y .origin) at (leb-false _ _ f)
 
 -- a conflict is a cause
-pub conflict-cause : (net : Net) (s : State) (m : Message) (k : ℕ) → Invariant net s → s .vis .records (m .tx) .phase ≡ Closing → m .bound ≡ s .vis .records (m .tx) .bound → m .bound ⊑ s .vis .clocks (net .home k) → Drafted (s .vis .records (m .tx) .drafts) k → Conflicts net (s .vis) m k →
-    Justified net (intents (s .vis .records)) (s .placed) (s .vis .book) (m .tx) k
-conflict-cause net s m k v c b l d x = record { drafted = rw is d; cause = go x }
+pub conflict-cause : (net : Net) (s : State) (m : Message) (k : ℕ) (o : Conflict) → Invariant net s → s .vis .records (m .tx) .phase ≡ Closing → m .bound ≡ s .vis .records (m .tx) .bound → m .bound ⊑ s .vis .clocks (net .home k) → Drafted (s .vis .records (m .tx) .drafts) k → Evidence net (s .vis) m k o →
+    Justified net (intents (s .vis .records)) (s .placed) (s .vis .book) (m .tx) (record { key = k; conflict = o })
+conflict-cause net s m k o v c b l d x = record { drafted = rw is d; cause = go o x }
   where
     r : Record
     r = s .vis .records (m .tx)
@@ -185,34 +189,34 @@ conflict-cause net s m k v c b l d x = record { drafted = rw is d; cause = go x 
     bound-is : intent r .bound ≡ m .bound
     bound-is = ap (λ (x : Intent). x .bound) is ∙ sym b
 
-    go : Conflicts net (s .vis) m k → ((j : ℕ) × Rival (intents (s .vis .records)) (s .placed) (m .tx) k j) ⊎ (length (s .vis .book k) ≡ net .depth)
-    go (full f) = inr f
-    go (taken-by h g e n) = inl (
-      h .tx,
-      record {
+    go : (o : Conflict) → Evidence net (s .vis) m k o → Says (Rival (intents (s .vis .records)) (s .placed) (m .tx) k) Any (Is-placed (s .placed)) (length (s .vis .book k) ≡ net .depth) o
+    go Full f = f
+    go (HeldBy o w) (h, g, e, n, t, _) = (
+      subst (Rival (intents (s .vis .records)) (s .placed) (m .tx) k) t (record {
         other = n;
         drafted = v .holders .meant k (h .tx) (h, g, e, refl);
         outside = λ E w t u.
             let u′ : E .number ≤ m .bound (E .origin) = rw bound-is at u in
             v .holders .after k E w (h, g, e, sym t) (omega (arith, u′, l (E .origin)));
-      },
+      }),
+      tt,
     )
-    go (newer w q f) =
+    go (Newer o′ w′ n′) (w, q, f, eo, ew, en) =
         let x = newest-by (s .placed) (s .vis .clocks (net .home k)) k w (sym (ap newest (v .books k)) ∙ q) in
         let E = x .0 in
-        inl (
-          E .tx,
-          record {
+        let et : E .tx ≡ w′ = sym (x .3 .writer) ∙ ew in (
+          subst (Rival (intents (s .vis .records)) (s .placed) (m .tx) k) et (record {
             other = placed-other (s .placed) (s .vis .records) E (m .tx) (v .granteds) (x .1) (differ Closing Granted refl c);
             drafted = rw (placed-intent (s .placed) (s .vis .records) E (v .granteds) (x .1)) (x .2);
             outside = λ F h t u.
                 let e : F ≡ E = placed-once (s .placed) (s .vis .records) F E (v .granteds) h (x .1) t in
                 let u′ : E .number ≤ m .bound (E .origin) = rw (bound-is, e) at u in
                 omega (arith, u′, by-outside E w (m .bound) (x .3) f);
-          },
+          }),
+          (E, x .1, et, sym (x .3 .origin) ∙ eo, sym (x .3 .number) ∙ en),
         )
 
-pub objects-keeps : (net : Net) (s : State) (p : ℕ) (m : Message) (lines : List Draft) (k : Objection) → Invariant net s → Ripe net (s .vis) p m → m .body ≡ prepare lines → Drafted lines (k .key) → Conflicts net (s .vis) m (k .key) →
+pub objects-keeps : (net : Net) (s : State) (p : ℕ) (m : Message) (lines : List Draft) (k : Objection) → Invariant net s → Ripe net (s .vis) p m → m .body ≡ prepare lines → Drafted lines (k .key) → Evidence net (s .vis) m (k .key) (k .conflict) →
     Invariant net (on s (voted net (s .vis) p m (Some k)))
 objects-keeps net s p m lines k v ripe e d x =
     let a = ripe .there in
@@ -222,8 +226,8 @@ objects-keeps net s p m lines k v ripe e d x =
     let q = message (m .tx) (m .to) (m .from) (m .bound) (vote (Some k)) in
     let b = v .votes .sound m (in-at (s .vis .air) p m a) (ap is-ballot e) in
     let at-home = homed-drafted net (m .to) (rs (m .tx) .drafts) (k .key) (subst (λ ds. Drafted ds (k .key)) (b .lines lines e) d) in
-    let why : Justified net (intents rs) P (s .vis .book) (m .tx) (k .key) =
-    conflict-cause net s m (k .key) v (b .closing) (b .bound) (subst (λ (t : ℕ). m .bound ⊑ s .vis .clocks t) (sym (at-home .1)) (ripe .caught-up)) (at-home .0) x in
+    let why : Justified net (intents rs) P (s .vis .book) (m .tx) k =
+    conflict-cause net s m (k .key) (k .conflict) v (b .closing) (b .bound) (subst (λ (t : ℕ). m .bound ⊑ s .vis .clocks t) (sym (at-home .1)) (ripe .caught-up)) (at-home .0) x in
     record {
       order = v .order;
       clocks = v .clocks;
@@ -245,7 +249,7 @@ objects-keeps net s p m lines k v ripe e d x =
       reads = reads-sent net P rs rest (s .readings) (q ∷ []) (only (λ x. is-read (x .body) ≡ false) q refl) (reads-landed net P rs (s .vis .air) (s .readings) p m a (v .reads));
       outcomes = outcomes-sent net P (s .vis .clocks) rest (q ∷ []) (only (λ x. is-granted (x .body) ≡ false) q refl) (outcomes-landed net P (s .vis .clocks) (s .vis .air) p m a (ap is-granted e) (v .outcomes));
       refusals = refusals-sent net P rs (s .vis .book) rest (q ∷ [])
-          (λ x j. only (λ x. x .body ≡ vote (Some j) → Justified net (intents rs) P (s .vis .book) (x .tx) (j .key)) q (λ c. let ek : k ≡ j = cc c in subst (λ (a : Objection). Justified net (intents rs) P (s .vis .book) (m .tx) (a .key)) ek why) x)
+          (λ x j. only (λ x. x .body ≡ vote (Some j) → Justified net (intents rs) P (s .vis .book) (x .tx) j) q (λ c. let ek : k ≡ j = cc c in subst (λ (a : Objection). Justified net (intents rs) P (s .vis .book) (m .tx) a) ek why) x)
           (refusals-landed net P rs (s .vis .book) (s .vis .air) p (v .refusals));
     }
 
@@ -266,7 +270,7 @@ ballots-other i air p m a t =
 
 -- the key named so far, or by this vote, is named for cause
 named-cause : (net : Net) (s : State) (m : Message) (named : Option Objection) (k : Objection) → Invariant net s → In m (s .vis .air) → m .body ≡ vote named → s .vis .records (m .tx) .phase ≡ Closing → either (s .vis .records (m .tx) .named) named ≡ Some k →
-    Justified net (intents (s .vis .records)) (s .placed) (s .vis .book) (m .tx) (k .key)
+    Justified net (intents (s .vis .records)) (s .placed) (s .vis .book) (m .tx) k
 named-cause net s m named k v h e c q = elim (either-cases (s .vis .records (m .tx) .named) named k q) [
   | inl f ↦ v .refusals .named (m .tx) k (ap has-closed c) f
   | inr f ↦ v .refusals .voted m k h (e ∙ ap vote (f .1))
@@ -426,9 +430,9 @@ refuses-keeps net s p m named k v ripe e one q =
           (reads-put net P (s .vis .records) i r rest (s .readings) (differ Closing Waiting refl c) (λ q. (q, refl)) (reads-landed net P (s .vis .records) (s .vis .air) (s .readings) p m a (v .reads)));
       outcomes = outcomes-sent net P (s .vis .clocks) rest ms (each (λ x. is-granted (x .body) ≡ false) (λ t. refl)) (outcomes-landed net P (s .vis .clocks) (s .vis .air) p m a (ap is-granted e) (v .outcomes));
       refusals = refusals-sent net P rs (s .vis .book) rest ms
-          (λ x j. each (λ x. x .body ≡ vote (Some j) → Justified net (intents rs) P (s .vis .book) (x .tx) (j .key)) (λ t b. absurd (both-ways false refl (ap is-ballot b))) x)
+          (λ x j. each (λ x. x .body ≡ vote (Some j) → Justified net (intents rs) P (s .vis .book) (x .tx) j) (λ t b. absurd (both-ways false refl (ap is-ballot b))) x)
           (refusals-put net P (s .vis .records) i r (s .vis .book) rest same
-          (λ j _ n. let ej : k ≡ j = cc n in subst (λ (a : Objection). Justified net (intents (s .vis .records)) P (s .vis .book) i (a .key)) ej (named-cause net s m named k v h e c q))
+          (λ j _ n. let ej : k ≡ j = cc n in subst (λ (a : Objection). Justified net (intents (s .vis .records)) P (s .vis .book) i a) ej (named-cause net s m named k v h e c q))
           (λ _. (k, refl))
           (refusals-landed net P (s .vis .records) (s .vis .book) (s .vis .air) p (v .refusals)));
     }

@@ -10,12 +10,14 @@ use Rattle.std.specs.declared.option.Option.the-variants.{Some, None}
 use Rattle.clocks.specs.declared.Version.{Version}
 use Rattle.messages.specs.declared.Draft.{Draft}
 use Rattle.messages.specs.declared.Objection.{Objection}
+use Rattle.messages.specs.declared.Conflict.{Conflict}
+use Rattle.messages.specs.declared.Conflict.the-variants.{Held as HeldBy, Newer, Full}
 use Rattle.tables.specs.declared.Reading.{Reading}
 use Rattle.tables.specs.declared.Phase.the-variants.{Refused}
 use Rattle.laws.specs.Lists.{In}
 use Rattle.laws.specs.Net.{Clock, Message, granted, Net, Drafted, has-closed, content-of, writer-of}
 use Rattle.laws.specs.Words.{Event}
-use Rattle.laws.specs.History.{placedIn, Earlier, begunIn, Counted, draftsIn, Within, Outside, versionsIn, Received, readsIn}
+use Rattle.laws.specs.History.{placedIn, Earlier, begunIn, Counted, draftsIn, Within, Outside, versionsIn, Received, readsIn, originIn, numberIn}
 use Rattle.laws.specs.State.{Visible}
 use Rattle.laws.specs.Rules.{Run}
 
@@ -55,11 +57,24 @@ pub record Rival (h : List Event) (v : Visible) (i k j : ℕ) : Type 0 where
   pub drafted : Drafted (draftsIn h j) k
   pub outside : Outside h j (v .records i .bound)
 
--- why the transaction i was refused
+-- what a conflict says: of whom it names, of the holder's origin, of the version that it names, or of the list
+abbrev pub Says : (ℕ → Type 0) → (ℕ → ℕ → Type 0) → (ℕ → ℕ → ℕ → Type 0) → Type 0 → Conflict → Type 0
+Says Who Whose Which Depth (HeldBy origin writer) = Who writer × Whose origin writer
+Says Who Whose Which Depth (Newer origin writer number) = Who writer × Which origin writer number
+Says Who Whose Which Depth Full = Depth
+
+-- why the transaction i was refused: a rival drafted the key that the vote against names, or its list is at the depth;
+-- and the one or the other is as the vote says
 pub record Cause (net : Net) (h : List Event) (v : Visible) (i : ℕ) (against : Objection) : Type 0 where
   pub named : v .records i .named ≡ Some against
   pub drafted : Drafted (draftsIn h i) (against .key)
   pub cause : ((j : ℕ) × Rival h v i (against .key) j) ⊎ (length (v .book (against .key)) ≡ net .depth)
+  pub told : Says
+      (Rival h v i (against .key))
+      (λ origin writer. originIn h writer ≡ origin)
+      (λ origin writer number. (originIn h writer ≡ origin) × (numberIn h writer ≡ Some number))
+      (length (v .book (against .key)) ≡ net .depth)
+      (against .conflict)
 
 pub record Laws (net : Net) (h : List Event) (v : Visible) : Type 0 where
   -- transactions and places are told by counting; what is placed had begun, and nothing is placed twice

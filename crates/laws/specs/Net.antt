@@ -1,6 +1,6 @@
 -- What the towers, the transactions and the air hold.
 use mathlib.Core.Path.{_≡_}
-use mathlib.Core.List.{List, [], _∷_, _++_}
+use mathlib.Core.List.{List, [], _∷_}
 use mathlib.Core.Bool.{Bool, true, false, cond, _&&_}
 use mathlib.Core.Logic.{_⊎_}
 use Prim.Native.Nat.{ℕ, _≤_, _<_}
@@ -77,19 +77,13 @@ pub record Net : Type 0 where
 -- ## Words
 
 infix 50 _⊑_
--- one clock has passed another
+-- the second clock covers the first
 abbrev pub _⊑_ : Clock → Clock → Type 0
 b ⊑ c = (j : ℕ) → b j ≤ c j
 
--- the clock has passed this version, or this transaction
+-- the version is within the clock
 abbrev pub inside : Clock → Version → Bool
 inside c v = leb (v .number) (c (v .origin))
-
-abbrev pub Seen : Placement → Clock → Type 0
-Seen T c = T .number ≤ c (T .origin)
-
-abbrev pub seen : Placement → Clock → Bool
-seen T c = leb (T .number) (c (T .origin))
 
 -- the drafts write the key
 abbrev pub Drafted : List Draft → ℕ → Type 0
@@ -104,24 +98,7 @@ written w o n (d ∷ ds) k =
     (record { writer = w; origin = o; number = n; content = d .content } ∷ written w o n ds k)
     (written w o n ds k)
 
-abbrev pub wrote : Placement → ℕ → List Version
-wrote T k = written (T .tx) (T .origin) (T .number) (T .drafts) k
-
--- every version of k, the oldest first
-abbrev pub versions : List Placement → ℕ → List Version
-versions [] k = []
-versions (T ∷ P) k = versions P k ++ wrote T k
-
--- those that a tower with this clock has taken in
-abbrev pub taken : Clock → List Placement → ℕ → List Version
-taken c [] k = []
-taken c (T ∷ P) k = taken c P k ++ cond (seen T c) (wrote T k) []
-
--- how many are placed from this tower
-abbrev pub count : List Placement → Clock
-count P j = tally (λ T. eqb (T .origin) j) P
-
--- what a reader at this clock is shown
+-- of versions, the oldest first, the last within the clock: what a reader is shown
 abbrev pub newest-within : Clock → List Version → Option Version
 newest-within c vs = last-of (inside c) vs
 
@@ -137,7 +114,7 @@ abbrev pub writer-of : Option Version → Option ℕ
 writer-of (Some x) = Some (x .writer)
 writer-of None = None
 
--- a transaction has asked for its grant
+-- a transaction has closed, whatever came of it
 abbrev pub has-closed : Phase → Bool
 has-closed Open = false
 has-closed Waiting = false
