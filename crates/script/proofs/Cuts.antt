@@ -8,7 +8,7 @@ use borrow.Author.Tests.{eq-eqb, ne-eqb, le-leb, lt-leb}
 use lib.Dec.{eqb, leb}
 use lib.ListN.{length, getD, take, drop}
 use Rattle.std.proofs.shelf.Lists.{take-all, drop-drop, drop-all, getD-drop, length-drop, length-take}
-use Rattle.script.specs.Grammar.{Field, fieldsOf, linesOf, onto, parts, placed, wordsOf}
+use Rattle.script.specs.Grammar.{fieldsOf, linesOf, onto, parts, placed, wordsOf}
 use Rattle.script.specs.Readers.{left, texts}
 
 -- no byte from `from` to `end` is `sep`

@@ -2,15 +2,13 @@
 use mathlib.Core.Path.{_≡_, refl, sym, ap, subst, _∙_}
 use mathlib.Core.Bool.{Bool, true, false, cond}
 use mathlib.Core.List.{List, [], _∷_, _++_, append-assoc}
-use Prim.Native.Nat.{ℕ, _≤_, _<_, _^_}
+use Prim.Native.Nat.{ℕ, _<_, _^_}
 use native.Mathlib.Omega.{arith}
 use borrow.Author.Tests.{clash, eqb-true, ne-eqb}
 use lib.Dec.{eqb}
-use lib.ListN.{length}
 use Rattle.std.specs.Reads.{Digits}
 use Rattle.std.specs.Written.{decimal}
 use Rattle.std.specs.declared.result.Result.{Result}
-use Rattle.std.specs.declared.result.Result.the-variants.{Ok}
 use Rattle.std.proofs.shelf.Decimals.{digits-decimal}
 use Rattle.std.proofs.shelf.Numerals.{digit-from-value}
 use Rattle.faults.specs.declared.Fault.{Fault}
@@ -24,7 +22,6 @@ use Rattle.words.proofs.Numbers.{own}
 use Rattle.script.specs.Grammar.{Instruction, Says, Slot, Sound, Takes, called, filled, label, onto, slots, valuesOf, verbOf, wordsOf}
 use Rattle.script.specs.Grammar.Instruction.{opens, begins, reads, drafts, closes, drops, delivers}
 use Rattle.script.specs.Grammar.Slot.{aNumber, someHomes, aBook}
-use Rattle.script.specs.Limits.{textLimit}
 use Rattle.script.specs.Lines.{Means, ReadBack, Spelled, textOf}
 use Rattle.script.specs.Lines.Means.{tooLong, says, wrong}
 use Rattle.script.proofs.Once.{Fit, fit, one-meaning}
