@@ -1,0 +1,4 @@
+pub mod Cuts
+pub mod Faulty
+pub mod Once
+pub mod Texts

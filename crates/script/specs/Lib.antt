@@ -1,0 +1,4 @@
+pub mod Limits
+pub mod Grammar
+pub mod Lines
+pub mod Readers
