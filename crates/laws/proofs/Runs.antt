@@ -143,3 +143,15 @@ early-tells : tells (two 1) early-calls ≡
     Begun 0 ∷ Drafts 1 ∷ Sent 1 ∷ Prepared 0 0 ∷ Placed 0 1 ∷ Begun 1 ∷ Sent 1 ∷ Fault Early ∷ Ended 0 1 ∷ Queried 1 ∷ Shown 1 1 None ∷ []
 unfolding put
 early-tells = refl
+
+-- an answer of a home that is ahead of the origin is ripe; the vote on what was drafted then comes early
+abbrev ahead-calls : List Call
+ahead-calls =
+    Begin 1 ∷ DraftCall 0 1 (says 5) ∷ Close 0 ∷ Deliver 0 ∷ Deliver 0 ∷ Begin 0 ∷ Read 1 1 ∷ Deliver 1 ∷ Deliver 1
+    ∷ DraftCall 1 1 (says 6) ∷ Close 1 ∷ Deliver 1 ∷ Deliver 1 ∷ Deliver 0 ∷ Deliver 0 ∷ []
+
+ahead-tells : tells (two 2) ahead-calls ≡
+    Begun 0 ∷ Drafts 1 ∷ Sent 1 ∷ Prepared 0 0 ∷ Placed 0 1 ∷ Begun 1 ∷ Sent 1 ∷ Queried 1 ∷ Shown 1 1 (Some (says 5))
+    ∷ Drafts 1 ∷ Sent 1 ∷ Prepared 1 0 ∷ Fault Early ∷ Ended 0 0 ∷ Placed 1 2 ∷ []
+unfolding put
+ahead-tells = refl
