@@ -1,4 +1,6 @@
 // Books: for each key a list of versions, oldest first, never longer than the book's depth.
+#![tactic(auto)]
+
 mod blank;
 mod newest;
 mod shape;

@@ -1,4 +1,6 @@
 // The rules of books, tried on both.
+#![tactic(auto)]
+
 #[cfg(test)]
 mod tests {
     use book::{Book, BookView, Shape, is_blank};

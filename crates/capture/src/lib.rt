@@ -1,4 +1,6 @@
 // What a capture of radio traffic says: a frame a line in hexadecimal, as a line of text.
+#![tactic(auto)]
+
 mod hex;
 mod text;
 

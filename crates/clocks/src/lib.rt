@@ -1,4 +1,6 @@
 // Vector clocks, and the versions that they judge.
+#![tactic(auto)]
+
 ghost use Rattle.std.specs.Prelude.{◌≡◌, true, false, [], ◌∷◌, MatchBool, slice_index};
 ghost use Rattle.clocks.specs.Clocks.{Covers, covers, Within, within, ClockExamples};
 

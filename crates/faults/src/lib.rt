@@ -1,4 +1,6 @@
 // The one fault type of the product. Every layer answers with it, and a fault goes up through the layers unchanged.
+#![tactic(auto)]
+
 ghost use Rattle.std.specs.Prelude.{◌≡◌, Some};
 ghost use Rattle.faults.specs.Table.{row_of, layer_word, plain};
 ghost use Rattle.faults.specs.Text.{fault_text};

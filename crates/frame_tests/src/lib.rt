@@ -1,4 +1,6 @@
 // Examples of frames, run.
+#![tactic(auto)]
+
 #[cfg(test)]
 mod tests {
     use clocks::{Clock, Content, TOWERS};

@@ -1,4 +1,6 @@
 // Prints what a capture of radio traffic says: standard input has a frame a line, in lower-case hexadecimal.
+#![tactic(auto)]
+
 use capture::describe;
 use std::io;
 use std::io::{BufRead, BufReader, BufWriter, Write};

@@ -1,4 +1,6 @@
 // The one frame of bytes that a message has on the radio: written, and read back.
+#![tactic(auto)]
+
 use clocks::TOWERS;
 use messages::LINES;
 

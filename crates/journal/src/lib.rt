@@ -1,4 +1,6 @@
 // A book that keeps one run of records for all keys, in the order in which they came.
+#![tactic(auto)]
+
 mod journal;
 mod record;
 mod search;

@@ -1,4 +1,5 @@
 // The laws of a net: what holds of every run of calls, and of what the net then holds.
+#![tactic(auto)]
 
 ghost use Rattle.laws.specs.Laws.{LawsStand};
 ghost use Rattle.laws.specs.Examples.{Examples};

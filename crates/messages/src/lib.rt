@@ -1,4 +1,6 @@
 // The messages between towers: what each kind says, the rules that it keeps, and its lines.
+#![tactic(auto)]
+
 use clocks::{Clock, Content, Version};
 
 mod entries;

@@ -1,4 +1,6 @@
 // The frames in the air of a run.
+#![tactic(auto)]
+
 ghost use Rattle.radio.specs.Air.{AirOfFrames};
 
 // Every frame in the air of a run is the one frame of a message and reads back as that message, and the laws hold.

@@ -1,4 +1,6 @@
 // Scripts: a text is lines, and a line is a command or has a fault.
+#![tactic(auto)]
+
 ghost use Rattle.script.specs.Lines.{Means, Only, ReadBack, Spelled, meant};
 
 use faults::{Cause, Fault};

@@ -1,4 +1,6 @@
 // Prints what each line of a script says: its command again, or its fault.
+#![tactic(auto)]
+
 use script::{Command, Reader, parse_line};
 use std::io;
 use std::io::Read;

@@ -1,4 +1,6 @@
 // What a net keeps, and what is lent to its calls.
+#![tactic(auto)]
+
 use book::MAX_KEYS;
 use clocks::{Clock, TOWERS};
 use frames::Frame;

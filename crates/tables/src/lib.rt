@@ -1,4 +1,6 @@
 // The tables of a net: what stands in them, what is asked of the net, and what it tells.
+#![tactic(auto)]
+
 use clocks::Content;
 use faults::Cause;
 
