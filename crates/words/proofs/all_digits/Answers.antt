@@ -5,8 +5,8 @@ use Rattle.std.proofs.lemmas.List.{take_all}
 use Rattle.words.proofs.Numbers.{no_digit}
 use Rattle.words.proofs.all_digits.Goals as goal
 
-pub returns-in-default : goal.returns-in-default
-returns-in-default c = (λ e. absurd (search rules), λ d. absurd (no_digit c.args.row.now c.loop-c.c-index (omega arith) c.in-default.ensures d))
+pub returns-in_default : goal.returns-in_default
+returns-in_default c = (λ e. absurd (search rules), λ d. absurd (no_digit c.args.row.now c.loop-c.c-index (omega arith) c.in_default.ensures d))
 
 pub loop-c-preserved : goal.loop-c-preserved
 loop-c-preserved c = search (rules, digits_more)

@@ -8,5 +8,5 @@ returns-in-empty c = search (rules, none_at_empty)
 pub returns-in-48 : goal.returns-in-48
 returns-in-48 c = search (rules, none_at_zero)
 
-pub returns-in-default : goal.returns-in-default
-returns-in-default c = search (rules, number-none, number-some)
+pub returns-in_default : goal.returns-in_default
+returns-in_default c = search (rules, number-none, number-some)

@@ -4,8 +4,8 @@ use Rattle.std.proofs.lemmas.List.{take_all}
 use Rattle.words.proofs.Numbers.{no_digit, front_le}
 use Rattle.words.proofs.value_of.Goals as goal
 
-pub returns-in-default : goal.returns-in-default
-returns-in-default c = search (rules, no_digit)
+pub returns-in_default : goal.returns-in_default
+returns-in_default c = search (rules, no_digit)
 
 pub returns-then-n-gt-LARGEST : goal.returns-then-n-gt-LARGEST
 returns-then-n-gt-LARGEST c d small = search (rules, digits_value_more, front_le (c.loop-c.c-index + 1) c.args.ds.now)

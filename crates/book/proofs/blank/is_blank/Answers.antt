@@ -11,14 +11,14 @@ pub loop-key-preserved : goal.loop-key-preserved
 loop-key-preserved g c =
     let s = g.B.BookView.kept c.args.book.now in
     let h : c.loop-key.key < s.keys = omega arith in
-    let e = c.unwrap-or.ensures ∙ ap (λ r. result_unwrap_or r 0) (c.count.ensures ∙ at_key_lem s c.loop-key.key _ h) in
+    let e = c.unwrap_or.ensures ∙ ap (λ r. result_unwrap_or r 0) (c.count.ensures ∙ at_key_lem s c.loop-key.key _ h) in
     below_more _ _ c.loop-key.invariant (nil_from_length (s.lists c.loop-key.key) (omega (arith, e)))
 
-pub returns-then-unwrap-or-gt0 : goal.returns-then-unwrap-or-gt0
-returns-then-unwrap-or-gt0 g c =
+pub returns-then-unwrap_or-gt0 : goal.returns-then-unwrap_or-gt0
+returns-then-unwrap_or-gt0 g c =
     let s = g.B.BookView.kept c.args.book.now in
     let h : c.loop-key.key < s.keys = omega arith in
-    let e = c.unwrap-or.ensures ∙ ap (λ r. result_unwrap_or r 0) (c.count.ensures ∙ at_key_lem s c.loop-key.key _ h) in
+    let e = c.unwrap_or.ensures ∙ ap (λ r. result_unwrap_or r 0) (c.count.ensures ∙ at_key_lem s c.loop-key.key _ h) in
     let not : Blank s → ⊥ = λ blank. let z = ap length (blank c.loop-key.key) in omega (arith, e) in
     record { rule = not; value = when_value false _ (Blank s) not (blank-true s c.keys-key-end.ensures.outside) (true-blank s c.keys-key-end.ensures.outside) }
 

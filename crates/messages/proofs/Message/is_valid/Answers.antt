@@ -3,4 +3,4 @@ use Rattle.messages.proofs.Message.is_valid.Goals as goal
 
 pub returns : goal.returns
 unfolding valid
-returns c = c.keeps-rules.ensures
+returns c = c.keeps_rules.ensures

@@ -9,6 +9,6 @@ pub returns-then-n-le-LINES : goal.returns-then-n-le-LINES
 returns-then-n-le-LINES c =
     let d = c.args.drafts.now in
     let places : length d.items ≡ line_limit = omega arith in
-    c.all_blank_lem.ensures
+    c.all_blank.ensures
     ∙ ap all_blank (take_all _ (drop d.len d.items) (simp length-drop (omega arith)))
     ∙ ap (λ b. b && all_blank (drop d.len d.items)) (sym (le-leb d.len line_limit c.if-n-le-LINES.true))

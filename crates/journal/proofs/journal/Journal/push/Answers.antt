@@ -24,8 +24,8 @@ free c =
 holds : (c : goal.After-add) → contents c.add.new.self ≡ contents c.args.self.now.records ++ (one c ∷ [])
 holds c = c.add.ensures.after ∙ ap (λ t. cond t (contents c.args.self.now.records) (contents c.args.self.now.records ++ (one c ∷ []))) (free c)
 
-pub invariant-of-self : goal.invariant-of-self
-invariant-of-self c =
+pub invariant_of-self : goal.invariant_of-self
+invariant_of-self c =
     let s = c.args.self.now in (
       subst (λ (n : ℕ). s.keys * s.depth ≤ n) (sym c.add.ensures.space) s.space,
       (

@@ -4,8 +4,8 @@ use Rattle.book.proofs.Sames.{same_lists}
 use Rattle.rows.proofs.Placing.{row-blank, row-short}
 use Rattle.rows.proofs.rows.Rows.cleared.Goals as goal
 
-pub invariant-of-result : goal.invariant-of-result
-invariant-of-result c = (
+pub invariant_of-result : goal.invariant_of-result
+invariant_of-result c = (
   subst (λ (n : ℕ). c.args.keys ≤ n) (sym c.fill.ensures.len) c.requires.counted,
   (c.requires.space, (c.requires.few, (c.requires.small, (row-short c.fill.new.self c.args.versions.now c.args.keys c.args.depth, tt)))),
 )

@@ -7,13 +7,13 @@ use Rattle.rows.proofs.Placing.{row-short, row-added}
 use Rattle.rows.proofs.rows.Rows.push.Goals as goal
 
 -- memory of the same lengths is memory of rows
-pub invariant-of-self : goal.invariant-of-self
-invariant-of-self c =
+pub invariant_of-self : goal.invariant_of-self
+invariant_of-self c =
     let s = c.args.self.now in
     (s.counted, (subst (λ (n : ℕ). s.keys * s.depth ≤ n) (sym (length-set _ _ _)) s.space, (s.few, (s.small, (row-short _ _ _ _, tt)))))
 
-pub invariant-of-self-2 : goal.invariant-of-self-2
-invariant-of-self-2 c =
+pub invariant_of-self-2 : goal.invariant_of-self-2
+invariant_of-self-2 c =
     let s = c.args.self.now in
     (subst (λ (n : ℕ). s.keys ≤ n) (sym (length-set _ _ _)) s.counted, (subst (λ (n : ℕ). s.keys * s.depth ≤ n) (sym (length-set _ _ _)) s.space, (s.few, (s.small, (row-short _ _ _ _, tt)))))
 

@@ -3,8 +3,8 @@ use Rattle.book.specs.Limits.{key_limit, depth_limit}
 use Rattle.rows.proofs.Placing.{row_end}
 use Rattle.rows.proofs.rows.Rows.start.Goals as goal
 
-pub overflow-mul-result : goal.overflow-mul-result
-overflow-mul-result c =
+pub overflow_mul-result : goal.overflow_mul-result
+overflow_mul-result c =
     let s = c.args.self.now in
     let e = row_end c.args.key s.keys s.depth (s.keys * s.depth) c.requires (le_refl (s.keys * s.depth)) in
     let m : s.keys * s.depth ≤ key_limit * s.depth = mul-le-mul_right s.depth s.few in
