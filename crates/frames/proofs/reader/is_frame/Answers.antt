@@ -9,7 +9,7 @@ pub returns-in-Ok : goal.returns-in-Ok
 returns-in-Ok c =
     let h = c.in-Ok.ensures in
     record {
-      value = frame_told c.args.message.now c.args.bytes.now c.in-Ok.frame c.eq.result h.value c.as-slice.result.now c.as-slice.ensures (slice_eq-Decides Decides-eqb _ _ _ c.eq.ensures);
+      value = frame_told c.args.message.now c.args.bytes.now c.in-Ok.frame c.eq.result h.value c.as_slice.result.now c.as_slice.ensures (slice_eq-Decides Decides-eqb _ _ _ c.eq.ensures);
       typed = λ _. h.typed;
     }
 

@@ -13,12 +13,12 @@ use Rattle.frames.specs.declared.hold.Frame.{Frame}
 use Rattle.frames.proofs.Back.{one-message, written_back}
 use Rattle.frames.proofs.writer.write.Goals as goal
 
-pub returns-then-not-is-valid : goal.returns-then-not-is-valid
-returns-then-not-is-valid c =
+pub returns-then-not-is_valid : goal.returns-then-not-is_valid
+returns-then-not-is_valid c =
     let m = c.args.message.now in
     let refused : ◌≡◌ {A = Result Frame Fault} (Err c.plain.result) (Err (plain WrongField)) = ap (λ f. Err f) c.plain.ensures in
     record {
-      value = refused ∙ sym (cond-false (valid m) (Ok (framed (frame_of m))) (Err (plain WrongField)) (sym c.if-not-is-valid.ensures));
+      value = refused ∙ sym (cond-false (valid m) (Ok (framed (frame_of m))) (Err (plain WrongField)) (sym c.if-not-is_valid.ensures));
       typed = tt;
       back = tt;
       one = one-message;
@@ -30,22 +30,22 @@ returns c =
     let m = c.args.message.now in
     let clock : List ℕ = flat_map le4 m.clock.entries in
     let lines : List ℕ = flat_map line_bytes (lines_of m.body) in
-    let head : List ℕ = c.head-bytes.result in
-    let all : (head ++ clock) ++ lines ≡ frame_of m = append_assoc head clock lines ∙ ap (λ q. q ++ (clock ++ lines)) c.head-bytes.ensures.value in
-    let bytes : c.add-lines.new.self ≡ framed (frame_of m) =
-    c.add-lines.ensures.adds _ (c.add-clock.ensures.adds _ (c.add.ensures.adds [] c.blank-frame.ensures.value)) ∙ ap framed all in
-    let done : ◌≡◌ {A = Result Frame Fault} (Ok c.add-lines.new.self) (Ok (framed (frame_of m))) = ap (λ f. Ok f) bytes in
+    let head : List ℕ = c.head_bytes.result in
+    let all : (head ++ clock) ++ lines ≡ frame_of m = append_assoc head clock lines ∙ ap (λ q. q ++ (clock ++ lines)) c.head_bytes.ensures.value in
+    let bytes : c.add_lines.new.self ≡ framed (frame_of m) =
+    c.add_lines.ensures.adds _ (c.add_clock.ensures.adds _ (c.add.ensures.adds [] c.blank-frame.ensures.value)) ∙ ap framed all in
+    let done : ◌≡◌ {A = Result Frame Fault} (Ok c.add_lines.new.self) (Ok (framed (frame_of m))) = ap (λ f. Ok f) bytes in
     let typed : Typed m = record {
       entries = omega arith;
-      clock = c.add-clock.ensures.typed;
-      number = c.head-bytes.ensures.typed;
-      lines = c.add-lines.ensures.typed;
-      places = c.add-lines.ensures.places;
+      clock = c.add_clock.ensures.typed;
+      number = c.head_bytes.ensures.typed;
+      lines = c.add_lines.ensures.typed;
+      places = c.add_lines.ensures.places;
     } in
-    let rules : valid m ≡ true = sym c.if-not-is-valid.ensures in
+    let rules : valid m ≡ true = sym c.if-not-is_valid.ensures in
     record {
       value = done ∙ sym (cond-true (valid m) (Ok (framed (frame_of m))) (Err (plain WrongField)) rules);
       typed = typed;
-      back = written_back m c.add-lines.new.self (record { typed = typed; rules = rules }) bytes;
+      back = written_back m c.add_lines.new.self (record { typed = typed; rules = rules }) bytes;
       one = one-message;
     }

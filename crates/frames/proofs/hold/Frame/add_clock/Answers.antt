@@ -12,7 +12,7 @@ loop-entry-preserved c = (
   omega arith,
   λ bs h.
       c.add.ensures.adds _ (c.loop-entry.invariant.1 bs h)
-      ∙ ap framed (joined_step le4 bs c.args.clock.now c.loop-entry.entry-index 0 c.to-le-bytes.result c.loop-entry-test.true c.to-le-bytes.ensures),
+      ∙ ap framed (joined_step le4 bs c.args.clock.now c.loop-entry.entry-index 0 c.to_le_bytes.result c.loop-entry-test.true c.to_le_bytes.ensures),
 )
 
 pub returns : goal.returns

@@ -10,7 +10,7 @@ use Rattle.frames.specs.declared.hold.Frame.{Frame}
 use Rattle.frames.proofs.Adding.{joined_step}
 use Rattle.messages.proofs.Listing.{get_or-nth, nth_some}
 use Rattle.frames.proofs.hold.Frame.add_lines.Goals as goal
-use Rattle.frames.proofs.hold.Frame.add_lines.Goals.{in-Some, in-default}
+use Rattle.frames.proofs.hold.Frame.add_lines.Goals.{in-Some, in_default}
 
 pub loop-i-preserved : goal.loop-i-preserved
 loop-i-preserved c =
@@ -21,12 +21,12 @@ loop-i-preserved c =
       | in-Some w ↦
           let line = w.in-Some.line in
           let at : get_or ls i line ≡ line = get_or-nth ls i less line (sym w.in-Some.ensures) in
-          let bytes : w.line-bytes.result ≡ line_bytes (get_or ls i line) = w.line-bytes.ensures.value ∙ ap line_bytes (sym at) in (
+          let bytes : w.line_bytes.result ≡ line_bytes (get_or ls i line) = w.line_bytes.ensures.value ∙ ap line_bytes (sym at) in (
             omega (arith, ap (λ (f : Frame). f.len) w.self-is, w.add.ensures.len),
             λ bs h. w.self-is ∙ w.add.ensures.adds _ (c.loop-i.invariant.1 bs h) ∙ ap framed (joined_step line_bytes bs ls i line _ less bytes),
-            All-more TypedLine ls i line less c.loop-i.invariant.2 (subst TypedLine (sym at) w.line-bytes.ensures.typed),
+            All-more TypedLine ls i line less c.loop-i.invariant.2 (subst TypedLine (sym at) w.line_bytes.ensures.typed),
           )
-      | in-default w ↦ absurd (nth_some ls i less (sym w.in-default.ensures))
+      | in_default w ↦ absurd (nth_some ls i less (sym w.in_default.ensures))
     ]
 
 pub returns : goal.returns

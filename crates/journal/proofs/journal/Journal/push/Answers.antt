@@ -26,16 +26,12 @@ holds c = c.add.ensures.after ∙ ap (λ t. cond t (contents c.args.self.now.rec
 
 pub invariant_of-self : goal.invariant_of-self
 invariant_of-self c =
-    let s = c.args.self.now in (
-      subst (λ (n : ℕ). s.keys * s.depth ≤ n) (sym c.add.ensures.space) s.space,
-      (
-        subst (λ (rs : List Record). Known s.keys rs) (sym (holds c)) (known_pushed s.keys s.depth (contents s.records) (one c) c.requires.there s.known),
-        (
-          subst (λ (rs : List Record). (k : ℕ) → length (list_of rs k) ≤ s.depth) (sym (holds c)) (filled-pushed s.keys s.depth (contents s.records) (one c) c.requires.there s.filled c.requires.short),
-          tt,
-        ),
-      ),
-    )
+    let s = c.args.self.now in
+    record {
+      space = subst (λ (n : ℕ). s.keys * s.depth ≤ n) (sym c.add.ensures.space) s.space;
+      known = subst (λ (rs : List Record). Known s.keys rs) (sym (holds c)) (known_pushed s.keys s.depth (contents s.records) (one c) c.requires.there s.known);
+      filled = subst (λ (rs : List Record). (k : ℕ) → length (list_of rs k) ≤ s.depth) (sym (holds c)) (filled-pushed s.keys s.depth (contents s.records) (one c) c.requires.there s.filled c.requires.short);
+    }
 
 pub returns : goal.returns
 returns c =

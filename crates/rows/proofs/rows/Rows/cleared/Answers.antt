@@ -5,10 +5,13 @@ use Rattle.rows.proofs.Placing.{row-blank, row-short}
 use Rattle.rows.proofs.rows.Rows.cleared.Goals as goal
 
 pub invariant_of-result : goal.invariant_of-result
-invariant_of-result c = (
-  subst (λ (n : ℕ). c.args.keys ≤ n) (sym c.fill.ensures.len) c.requires.counted,
-  (c.requires.space, (c.requires.few, (c.requires.small, (row-short c.fill.new.self c.args.versions.now c.args.keys c.args.depth, tt)))),
-)
+invariant_of-result c = record {
+  counted = subst (λ (n : ℕ). c.args.keys ≤ n) (sym c.fill.ensures.len) c.requires.counted;
+  space = c.requires.space;
+  few = c.requires.few;
+  small = c.requires.small;
+  short = row-short c.fill.new.self c.args.versions.now c.args.keys c.args.depth;
+}
 
 pub returns : goal.returns
 returns c =

@@ -10,12 +10,24 @@ use Rattle.rows.proofs.rows.Rows.push.Goals as goal
 pub invariant_of-self : goal.invariant_of-self
 invariant_of-self c =
     let s = c.args.self.now in
-    (s.counted, (subst (λ (n : ℕ). s.keys * s.depth ≤ n) (sym (length-set _ _ _)) s.space, (s.few, (s.small, (row-short _ _ _ _, tt)))))
+    record {
+      counted = s.counted;
+      space = subst (λ (n : ℕ). s.keys * s.depth ≤ n) (sym (length-set _ _ _)) s.space;
+      few = s.few;
+      small = s.small;
+      short = row-short _ _ _ _;
+    }
 
 pub invariant_of-self-2 : goal.invariant_of-self-2
 invariant_of-self-2 c =
     let s = c.args.self.now in
-    (subst (λ (n : ℕ). s.keys ≤ n) (sym (length-set _ _ _)) s.counted, (subst (λ (n : ℕ). s.keys * s.depth ≤ n) (sym (length-set _ _ _)) s.space, (s.few, (s.small, (row-short _ _ _ _, tt)))))
+    record {
+      counted = subst (λ (n : ℕ). s.keys ≤ n) (sym (length-set _ _ _)) s.counted;
+      space = subst (λ (n : ℕ). s.keys * s.depth ≤ n) (sym (length-set _ _ _)) s.space;
+      few = s.few;
+      small = s.small;
+      short = row-short _ _ _ _;
+    }
 
 pub returns : goal.returns
 returns c =
