@@ -5,14 +5,14 @@ use Rattle.script.proofs.Once.{one_meaning}
 use Rattle.script.proofs.Texts.{read_back, spelled}
 use Rattle.script.proofs.parse_line.Goals as goal
 
-pub returns-then-line-gt-TEXT-LIMIT : goal.returns-then-line-gt-TEXT-LIMIT
-returns-then-line-gt-TEXT-LIMIT c =
+pub returns-then-line-gt-TEXT_LIMIT : goal.returns-then-line-gt-TEXT_LIMIT
+returns-then-line-gt-TEXT_LIMIT c =
     let it : Means c.args.line.now (Err c.plain.result) = too_long_lem _ _ (omega arith) c.plain.ensures in
     record { means = it; only = λ q h. one_meaning _ h it; spelled = spelled _ it; back = read_back _ it }
 
-pub returns-in-default : goal.returns-in-default
-returns-in-default c =
-    let it : Means c.args.line.now (Err c.plain-in-default.result) = not_called _ (omega arith) _ c.new-fields.ensures _ c.plain-in-default.ensures c.in-default.ensures in
+pub returns-in_default : goal.returns-in_default
+returns-in_default c =
+    let it : Means c.args.line.now (Err c.plain-in_default.result) = not_called _ (omega arith) _ c.new-fields.ensures _ c.plain-in_default.ensures c.in_default.ensures in
     record { means = it; only = λ q h. one_meaning _ h it; spelled = spelled _ it; back = read_back _ it }
 
 pub returns : goal.returns

@@ -19,5 +19,5 @@ pub returns : goal.returns
 returns c = record {
   len = omega arith;
   adds = λ bs h. c.loop-entry.invariant.1 bs h ∙ ap (λ q. framed (bs ++ flat_map le4 q)) (take_all _ c.args.clock.now c.loop-entry-test.false);
-  typed = All-from_get_or (λ v. v < 2 ^ 32) c.args.clock.now 0 (λ i _. omega (arith, c.type-inv.clock i));
+  typed = All-from_get_or (λ v. v < 2 ^ 32) c.args.clock.now 0 (λ i _. omega (arith, c.type_inv.clock i));
 }
