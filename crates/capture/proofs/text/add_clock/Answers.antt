@@ -9,7 +9,7 @@ pub returns : goal.returns
 returns c =
     let es = c.args.clock.now in
     let bs = string_bytes c.args.out.now in
-    c.in-ok-add-entries.ensures
-    ∙ ap (λ r. string_bytes c.add-entry.new.out ++ flat_map next_entry r) (take_rest es 1)
-    ∙ ap (λ q. q ++ flat_map next_entry (drop 1 es)) c.in-ok-add-entry.ensures
+    c.in_ok-add_entries.ensures
+    ∙ ap (λ r. string_bytes c.add_entry.new.out ++ flat_map next_entry r) (take_rest es 1)
+    ∙ ap (λ q. q ++ flat_map next_entry (drop 1 es)) c.in_ok-add_entry.ensures
     ∙ clock-first bs es (omega (arith, ltb-false))

@@ -7,7 +7,7 @@ use Rattle.capture.proofs.text.add_entries.Goals as goal
 
 pub loop-entry-preserved : goal.loop-entry-preserved
 loop-entry-preserved c =
-    c.in-ok-add-entry.ensures
+    c.in_ok-add_entry.ensures
     ∙ ap (λ q. q ++ next_entry (get_or c.args.entries.now c.loop-entry.entry-index 0)) c.loop-entry.invariant
     ∙ joined_step next_entry (string_bytes c.args.out.now) c.args.entries.now c.loop-entry.entry-index 0 _ c.loop-entry-test.true refl
 

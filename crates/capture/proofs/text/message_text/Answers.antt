@@ -10,6 +10,6 @@ returns c =
     let m = c.args.m.now in
     let clock : List ℕ = clock_text m.clock.entries in
     let lines : List ℕ = flat_map line_text (lines_of m.body) in
-    c.in-ok-add-lines.ensures
-    ∙ ap (λ q. q ++ lines) (c.in-ok-add-clock.ensures ∙ ap (λ q. q ++ clock) (c.in-ok-push-str.ensures.bytes ∙ ap (λ q. q ++ codes " clock=") c.in-ok-out.ensures))
+    c.in_ok-add_lines.ensures
+    ∙ ap (λ q. q ++ lines) (c.in_ok-add_clock.ensures ∙ ap (λ q. q ++ clock) (c.in_ok-push_str.ensures.bytes ∙ ap (λ q. q ++ codes " clock=") c.in_ok-out.ensures))
     ∙ four (head_text m) (codes " clock=") clock lines
