@@ -12,11 +12,11 @@ use Rattle.laws.specs.Lists.{put, In, At, without, either}
 use Rattle.laws.specs.Net.{Clock, Record, vote, granted, refused, Message, Placement, Net, ◌⊑◌, Drafted, has_closed}
 use Rattle.laws.proofs.Log.{taken, count, Seen, seen}
 use Rattle.laws.proofs.Model.{Answered, State, on, placing}
-use Rattle.laws.specs.Rules.{Ripe, asked, closed, granting, took, voted}
+use Rattle.laws.specs.Rules.{Ripe, granting, took}
 use Rattle.laws.specs.Words.{placed_as, homed, freed, granted_to, grants_to}
 use Rattle.laws.proofs.Lists.{put_same, put_other, put_case, in_left, in_right, in_append, in_at, in_without, in_rest, none_left}
 use Rattle.laws.proofs.Placed.{Numbered, Ordered, Closed, count_self, count_grows, number_le, number_pos, new_unseen, shown-new, closed-new}
-use Rattle.laws.proofs.Invariant.{Intent, Intents, intents, is_read, is_ballot, is_granted, is_refused, polled, reads, ballots, Fair, Bounds, Books, Holds, Holders, Granteds, Reads, Outcomes, Justified, Refusals, Invariant}
+use Rattle.laws.proofs.Invariant.{Intent, Intents, intents, is_read, is_ballot, is_granted, is_refused, polled, ballots, Fair, Bounds, Books, Holds, Holders, Granteds, Reads, Outcomes, Justified, Refusals, Invariant}
 use Rattle.laws.proofs.Frames.{same-put, holders_same, granteds_put, bounds-put, unbegun_put, reads-put, refusals_put, votes_landed, votes_sent, votes_held, reads_landed, reads-sent, outcomes_landed, refusals_landed, refusals_sent, freed_keeps, differ, only, intent_shut, placed-once, placed-other}
 use Rattle.laws.proofs.Voting.{votes_over, polled_vote}
 use Rattle.laws.proofs.TakeIn.{passed, Next, passed_grows, passed_seen, passed_behind, passed_closed, added, added_books, added_full, added_holders, refusals_full}

@@ -7,7 +7,7 @@ use Rattle.laws.specs.Lists.{put, In, At, without}
 use Rattle.laws.specs.Net.{Clock, Record, Body, query, answer, vote, refused, Message, Net, ◌⊑◌, newest_within, has_closed}
 use Rattle.laws.proofs.Log.{versions}
 use Rattle.laws.proofs.Model.{Answered, State, noting, on}
-use Rattle.laws.specs.Rules.{Ripe, asked, closed, received, replied}
+use Rattle.laws.specs.Rules.{Ripe, received, replied}
 use Rattle.laws.specs.Words.{reading_at, message}
 use Rattle.laws.proofs.Lists.{put_same, put_other, put_case, in_at, tally_at, none_left}
 use Rattle.laws.proofs.Placed.{shown_of_book}

@@ -6,14 +6,14 @@ use Rattle.messages.specs.declared.Objection.{Objection}
 use Rattle.laws.proofs.Conflicts.{unopposed, opposed, says_map, none-some}
 use Rattle.laws.proofs.Origins.{Sound, OriginsOf, rule_origins}
 use Rattle.laws.specs.Lists.{In}
-use Rattle.laws.specs.Net.{Record, refused, Placement, Net, Drafted, has_closed}
+use Rattle.laws.specs.Net.{Record, Placement, Net, Drafted, has_closed}
 use Rattle.laws.proofs.Log.{Seen, seen}
 use Rattle.laws.proofs.Model.{Logged, State, by_step, first, next, noting, on, placing, start, then}
-use Rattle.laws.specs.Rules.{Rule, agrees, asked, asks, begins, closed, closes, closes_empty, counts, drafts, drops, grants, receives, releases, reads_own, objects, refuses, replies, takes_in, voted}
+use Rattle.laws.specs.Rules.{Rule, agrees, asks, begins, closes, closes_empty, counts, drafts, drops, grants, receives, releases, reads_own, objects, refuses, replies, takes_in}
 use Rattle.laws.specs.State.{placement, Visible}
 use Rattle.laws.specs.Words.{redrafted, homed, granted_to, Event}
 use Rattle.laws.proofs.Placed.{Ordered, number_le, taken_all}
-use Rattle.laws.proofs.Invariant.{Intent, intent, intents, reads, Justified, Invariant}
+use Rattle.laws.proofs.Invariant.{Intent, intent, intents, Justified, Invariant}
 use Rattle.laws.proofs.Frames.{no_intent, differ, intent_shut}
 use Rattle.tables.specs.declared.Call.{Call}
 use Rattle.tables.specs.declared.Told.{Told}

@@ -5,12 +5,11 @@ use Rattle.clocks.specs.declared.Version.{Version}
 use Rattle.messages.specs.declared.Draft.{Draft}
 use Rattle.tables.specs.declared.Held.{Held}
 use Rattle.laws.specs.Lists.{put, In}
-use Rattle.laws.specs.Net.{Clock, Record, refused, Message, Placement, Net, ◌⊑◌, Drafted, written}
+use Rattle.laws.specs.Net.{Clock, Record, Message, Placement, Net, ◌⊑◌, Drafted, written}
 use Rattle.messages.specs.declared.Objection.{Objection}
 use Rattle.laws.proofs.Conflicts.{says_map}
 use Rattle.laws.proofs.Log.{wrote, taken, count, Seen}
 use Rattle.laws.specs.Words.{homed, freed}
-use Rattle.laws.specs.Rules.{voted}
 use Rattle.laws.proofs.Lists.{put_same, put_other, put_case, put_all}
 use Rattle.laws.proofs.Placed.{Numbered, Ordered, Closed, number_le, put_grows, written_none, taken_more, seen_or_same, closed-put}
 use Rattle.laws.proofs.Invariant.{Intents, intents, Books, Holds, Holders, Justified, Refusals}

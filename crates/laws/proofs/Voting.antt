@@ -14,12 +14,12 @@ use Rattle.laws.specs.Lists.{put, In, At, without, either}
 use Rattle.laws.specs.Net.{Clock, Record, prepare, vote, refused, Message, Placement, Net, ◌⊑◌, Drafted, inside, newest, has_closed}
 use Rattle.laws.proofs.Log.{taken, Seen, seen, IsPlaced}
 use Rattle.laws.proofs.Model.{State, on}
-use Rattle.laws.specs.Rules.{Ripe, asked, closed, counted, released, refusing, voted}
+use Rattle.laws.specs.Rules.{Ripe, counted, released, refusing, voted}
 use Rattle.laws.specs.State.{holding}
 use Rattle.laws.specs.Words.{voting, message, unless_none, holds_of, homed, freed, refused_to, refusals_to}
 use Rattle.laws.proofs.Lists.{put_same, put_other, put_case, in_left, in_right, in_append, in_at, in_without, in_rest, tally-append, tally_at, none_left}
 use Rattle.laws.proofs.Placed.{Closed, By, newest-covers, newest_by}
-use Rattle.laws.proofs.Invariant.{Intent, intent, Intents, intents, is_read, is_ballot, is_granted, polled, reads, ballots, Holds, Holders, Ballot, Votes, Rival, Justified, Invariant}
+use Rattle.laws.proofs.Invariant.{Intent, intent, Intents, intents, is_read, is_ballot, is_granted, polled, ballots, Holds, Holders, Ballot, Votes, Rival, Justified, Invariant}
 use Rattle.laws.proofs.Frames.{same-put, holders_same, granteds_put, bounds-put, unbegun_put, reads-put, refusals_put, votes_landed, votes_sent, votes_held, reads_landed, reads-sent, outcomes_landed, outcomes_sent, refusals_landed, refusals_sent, holds_left, holds_freed, freed_keeps, differ, only, intent_shut, placed_intent, placed-once, placed-other}
 use Rattle.laws.proofs.Calls.{no_vote, homed-drafted, drafted-homed}
 

@@ -8,7 +8,7 @@ use Rattle.clocks.specs.Clocks.{tower_limit}
 use Rattle.messages.specs.Limits.{line_limit, transaction_limit}
 use Rattle.messages.specs.Drafting.{counted, blank, drafts_of}
 use Rattle.messages.specs.Table.{draft_line, conflict_line, lines_of, number_of}
-use Rattle.messages.specs.Rules.{all_blank, fit_drafts, fit_version, fit_conflict, fit_body, rules, valid, TypedLine, Places, HasFrame}
+use Rattle.messages.specs.Rules.{all_blank, fit_drafts, fit_version, fit_conflict, fit_body, valid, TypedLine, Places, HasFrame}
 use Rattle.messages.specs.declared.Draft.{Draft}
 use Rattle.messages.specs.declared.Conflict.{Conflict}
 use Rattle.messages.specs.declared.Conflict.TheVariants.{Held, Newer, Full}

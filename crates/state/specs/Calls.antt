@@ -1,5 +1,5 @@
 -- What begin, read, draft and drop answer, and the state then.
-use Rattle.std.specs.Prelude.{ℕ, Bool, true, false, cond, not, List, [], length, Some, None, Ok, Err, Option, Result, nat_le, nat_lt}
+use Rattle.std.specs.Prelude.{ℕ, false, cond, not, List, [], length, Some, None, Ok, Err, Option, Result, nat_le, nat_lt}
 use Rattle.std.specs.List.{slice_get}
 use Rattle.faults.specs.Table.{plain}
 use Rattle.faults.specs.declared.Fault.{Fault}

@@ -7,7 +7,7 @@ use Rattle.book.specs.Books.{Kept}
 use Rattle.book.specs.Newest.{inside}
 use Rattle.messages.specs.declared.Draft.{Draft}
 use Rattle.messages.specs.declared.Conflict.{Conflict}
-use Rattle.messages.specs.declared.Conflict.TheVariants.{Held as HeldBy, Newer, Full}
+use Rattle.messages.specs.declared.Conflict.TheVariants.{Newer, Full}
 use Rattle.messages.specs.declared.Objection.{Objection}
 use Rattle.tables.specs.declared.Held.{Held}
 use Rattle.laws.specs.Lists.{either, first_of}

@@ -10,7 +10,6 @@ use Rattle.book.specs.Newest.{newest}
 use Rattle.messages.specs.Table.{conflict_mark}
 use Rattle.messages.specs.Drafting.{counted}
 use Rattle.messages.specs.declared.Draft.{Draft}
-use Rattle.messages.specs.declared.Drafts.{Drafts}
 use Rattle.messages.specs.declared.Objection.{Objection}
 use Rattle.messages.specs.declared.Vote.{Vote}
 use Rattle.messages.specs.declared.Vote.TheVariants.{Yes, No}
@@ -20,7 +19,6 @@ use Rattle.messages.specs.declared.Body.{Body}
 use Rattle.messages.specs.declared.Body.TheVariants.{Query, Answer as AnswerBody, Prepare as PrepareBody, Vote as VoteBody, Outcome as OutcomeBody}
 use Rattle.frames.specs.Answers.{written, read_of, bytes_of}
 use Rattle.frames.specs.declared.hold.Frame.{Frame}
-use Rattle.tables.specs.declared.Held.{Held}
 use Rattle.tables.specs.declared.Phase.{Phase}
 use Rattle.tables.specs.declared.Phase.TheVariants.{Open, Waiting, Closing, Granted, Refused, Dropped}
 use Rattle.tables.specs.declared.Told.{Told}
@@ -30,7 +28,7 @@ use Rattle.laws.specs.Net.{content_of, writer_of}
 use Rattle.laws.specs.Words.{holds_of}
 use Rattle.state.specs.declared.Record.{Record}
 use Rattle.state.specs.declared.Purpose.TheVariants.{Grant, Refuse}
-use Rattle.state.specs.State.{State, Answer, refuse, tells, where_fitting, Table, has_place, more, with_item, holding, less_item, with_records, with_air, with_held, with_readings, tower_at}
+use Rattle.state.specs.State.{State, Answer, refuse, tells, where_fitting, Table, has_place, more, with_item, holding, less_item, with_air, with_held, with_readings, tower_at}
 use Rattle.state.specs.Calls.{voting, amended}
 use Rattle.state.specs.Closing.{places_for}
 use Rattle.state.specs.Letters.{homed, letter_to, sealed}

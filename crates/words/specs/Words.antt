@@ -1,5 +1,5 @@
 -- The words of a script, and the numbers that it may write.
-use Rattle.std.specs.Prelude.{◌≡◌, ℕ, ◌^◌, ◌<◌, List, codes, decimal, ◌≢◌}
+use Rattle.std.specs.Prelude.{ℕ, ◌^◌, ◌<◌, List, codes, decimal, ◌≢◌}
 use Rattle.words.specs.declared.BookKind.{BookKind}
 use Rattle.words.specs.declared.BookKind.TheVariants.{Journal, Rows}
 use Rattle.words.specs.declared.Name.{Name}
