@@ -4,7 +4,7 @@ use Rattle.std.proofs.lemmas.List.{append_assoc, take-append-drop, drop_more, ge
 use Rattle.std.proofs.ByRecursion.{All-from_get_or}
 use Rattle.std.proofs.lemmas.List.Sums.{fold_push}
 use Rattle.std.proofs.lemmas.Bool.{and_parts, and_from, ltb-true, lt-ltb, leb-true, le-leb, cases_Bool}
-use Rattle.std.specs.List.{AllByRecursion as All}
+use Rattle.std.specs.List.{AllByRecursion}
 use Rattle.clocks.specs.declared.Clock.{Clock}
 use Rattle.clocks.specs.declared.Version.{Version}
 use Rattle.book.specs.Newest.{Inside, inside, newest, LastPlace, LastWithin}
@@ -25,7 +25,7 @@ pub newest_push : (b : Clock) (vs : List Version) (v : Version) → newest b (vs
 newest_push b vs v = fold_push (λ best w. cond (inside b w) (Some w) best) None vs v
 
 -- all versions outside the bound leave the best so far
-kept_best : (b : Clock) (vs : List Version) (o : Option Version) → All (λ w. Inside b w → ⊥) vs → fold (λ best v. cond (inside b v) (Some v) best) o vs ≡ o
+kept_best : (b : Clock) (vs : List Version) (o : Option Version) → AllByRecursion (λ w. Inside b w → ⊥) vs → fold (λ best v. cond (inside b v) (Some v) best) o vs ≡ o
 kept_best b [] o h = refl
 kept_best b (v ∷ vs) o h =
     ap (λ t. fold (λ best w. cond (inside b w) (Some w) best) (cond t (Some v) o) vs) (not_inside b v h.0) ∙ kept_best b vs o h.1

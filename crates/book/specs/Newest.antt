@@ -1,6 +1,6 @@
 -- What a list of versions shows at a bound.
 use Rattle.std.specs.Prelude.{◌≡◌, ℕ, ◌<◌, Bool, cond, List, ◌∷◌, ◌++◌, Some, None, fold, Option}
-use Rattle.std.specs.List.{AllByRecursion as All}
+use Rattle.std.specs.List.{AllByRecursion}
 use Rattle.clocks.specs.Clocks.{Within, within}
 use Rattle.clocks.specs.declared.Clock.{Clock}
 use Rattle.clocks.specs.declared.Version.{Version}
@@ -28,5 +28,5 @@ newest b vs = fold (λ best v. cond (inside b v) (Some v) best) None vs
 
 -- the same as a relation: all that comes after the version is outside the bound, and where there is none, all is
 abbrev pub LastWithin : Clock → List Version → Option Version → Type 0
-LastWithin b vs (Some v) = (before : List Version) × (after : List Version) × (vs ≡ before ++ (v ∷ after)) × Inside b v × All (λ w. Inside b w → ⊥) after
-LastWithin b vs None = All (λ w. Inside b w → ⊥) vs
+LastWithin b vs (Some v) = (before : List Version) × (after : List Version) × (vs ≡ before ++ (v ∷ after)) × Inside b v × AllByRecursion (λ w. Inside b w → ⊥) after
+LastWithin b vs None = AllByRecursion (λ w. Inside b w → ⊥) vs

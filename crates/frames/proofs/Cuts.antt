@@ -1,6 +1,6 @@
 -- Things of equal width that are read from bytes, one after another.
 use Rattle.std.proofs.Common.{◌≡◌, ℕ, zero, suc, ◌+◌, ◌-◌, ◌*◌, ◌<◌, List, [], ◌∷◌, ◌++◌, length, take, drop, set, replicate, sym, refl, ap, ◌∙◌, append_assoc, mul-zero, mul-suc, mul-add, add-one, arith, length-append}
-use Rattle.std.specs.List.{flat_map, AllByRecursion as All}
+use Rattle.std.specs.List.{flat_map, AllByRecursion}
 use Rattle.std.proofs.lemmas.List.{drop-drop, drop_at, set_at, take_rest}
 use Rattle.frames.specs.Bytes.{cut}
 
@@ -29,7 +29,7 @@ module _ {X : Type 0} (f : X → List ℕ) (w : ℕ) (wide : (x : X) → length 
   length_joined [] = omega arith
   length_joined (x ∷ xs) = simp length-append (omega (arith, wide x, length_joined xs, mul-add w (length xs) 1))
 
-  pub cut_joined : (g : List ℕ → X) (P : X → Type 0) → ((x : X) (r : List ℕ) → P x → g (f x ++ r) ≡ x) → (xs : List X) (r : List ℕ) → All P xs → cut g w (length xs) (flat_map f xs ++ r) ≡ xs
+  pub cut_joined : (g : List ℕ → X) (P : X → Type 0) → ((x : X) (r : List ℕ) → P x → g (f x ++ r) ≡ x) → (xs : List X) (r : List ℕ) → AllByRecursion P xs → cut g w (length xs) (flat_map f xs ++ r) ≡ xs
   cut_joined g P back [] r a = refl
   cut_joined g P back (x ∷ xs) r a =
       let e : (f x ++ flat_map f xs) ++ r ≡ f x ++ (flat_map f xs ++ r) = append_assoc (f x) (flat_map f xs) r in

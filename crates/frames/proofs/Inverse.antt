@@ -4,7 +4,7 @@ use lib.ListN.{length-map}
 use Rattle.std.proofs.lemmas.List.{drop_at}
 use Rattle.std.proofs.lemmas.Nat.{shr-shr, div_below}
 use Rattle.std.proofs.lemmas.Bool.{and_parts}
-use Rattle.std.specs.List.{flat_map, AllByRecursion as All}
+use Rattle.std.specs.List.{flat_map, AllByRecursion}
 use Rattle.messages.specs.Limits.{line_limit}
 use Rattle.frames.specs.Sizes.{entry_size, line_size, fixed_size, frame_size}
 use Rattle.frames.specs.Bytes.{le4, word_at, cut}
@@ -42,7 +42,7 @@ word_back v h =
     let l : c % 256 ≡ c = omega (arith, div_below v 16777216 256 (omega arith) h) in
     omega (arith, i, j, k, l, p, q)
 
-clock-back : (e : ℕ) (c r : List ℕ) → length c ≡ e → All (λ v. v < 2 ^ 32) c → clock_at e (flat_map le4 c ++ r) ≡ c
+clock-back : (e : ℕ) (c r : List ℕ) → length c ≡ e → AllByRecursion (λ v. v < 2 ^ 32) c → clock_at e (flat_map le4 c ++ r) ≡ c
 clock-back e c r n h =
     ap (λ k. clock_at k (flat_map le4 c ++ r)) (sym n)
     ∙ cut_joined le4 entry_size (λ _. refl) (λ b. word_at b 0) (λ v. v < 2 ^ 32) (λ v _ l. word_back v l) c r h
@@ -52,14 +52,14 @@ joined_lines : (ds : List Draft) → flat_map line_bytes (map draft_line ds) ≡
 joined_lines [] = refl
 joined_lines (d ∷ ds) = ap (λ r. line_bytes (draft_line d) ++ r) (joined_lines ds)
 
-all_drafts : (ds : List Draft) → All TypedLine (map draft_line ds) → All (λ d. TypedLine (draft_line d)) ds
+all_drafts : (ds : List Draft) → AllByRecursion TypedLine (map draft_line ds) → AllByRecursion (λ d. TypedLine (draft_line d)) ds
 all_drafts [] h = tt
 all_drafts (d ∷ ds) h = (h.0, all_drafts ds h.1)
 
 draft_back : (d : Draft) (r : List ℕ) → TypedLine (draft_line d) → draft_at (line_bytes (draft_line d) ++ r) ≡ d
 draft_back d r h = ap (λ (v : ℕ). let x : Draft = record { key = d.key; content = record { value = v } } in x) (word_back d.content.value h.value)
 
-drafts-back : (d : Drafts) → fit_drafts d ≡ true → length d.items ≡ line_limit → All TypedLine (map draft_line (counted d)) → drafts_at (length (map draft_line (counted d))) (flat_map line_bytes (map draft_line (counted d))) ≡ d
+drafts-back : (d : Drafts) → fit_drafts d ≡ true → length d.items ≡ line_limit → AllByRecursion TypedLine (map draft_line (counted d)) → drafts_at (length (map draft_line (counted d))) (flat_map line_bytes (map draft_line (counted d))) ≡ d
 drafts-back d fit places typed =
     let ds : List Draft = counted d in
     let f : Draft → List ℕ = λ x. line_bytes (draft_line x) in
@@ -77,7 +77,7 @@ vote-back key (Held o w) t = rw (half_back w t.writer)
 vote-back key (Newer o w n) t = rw (half_back w t.writer, word_back n t.number)
 vote-back key Full t = refl
 
-pub body_back : (b : Body) → fit_body b ≡ true → Places b → All TypedLine (lines_of b) → body_at (kind_of b) (mark_of b) (number_of b) (length (lines_of b)) (flat_map line_bytes (lines_of b)) ≡ b
+pub body_back : (b : Body) → fit_body b ≡ true → Places b → AllByRecursion TypedLine (lines_of b) → body_at (kind_of b) (mark_of b) (number_of b) (length (lines_of b)) (flat_map line_bytes (lines_of b)) ≡ b
 body_back (Query key true) h p t = refl
 body_back (Query key false) h p t = refl
 body_back (Answer key None) h p t = refl

@@ -1,6 +1,6 @@
 // Writing a frame, part after part.
 ghost use Rattle.std.specs.Prelude.{◌≡◌, ℕ, ◌+◌, ◌*◌, ◌^◌, ◌<◌, ◌≤◌, List, [], ◌++◌, length, replicate, IfOk, Ok, OnOk};
-ghost use Rattle.std.specs.List.{flat_map, AllByRecursion as All};
+ghost use Rattle.std.specs.List.{flat_map, AllByRecursion};
 ghost use Rattle.clocks.specs.Clocks.{tower_limit};
 ghost use Rattle.frames.specs.Sizes.{entry_size, fixed_size, most_bytes};
 ghost use Rattle.frames.specs.Bytes.{le4};
@@ -56,7 +56,7 @@ impl Frame {
         requires { self.old.len + entry_size * length clock.now ≤ most_bytes }
         ensures len { self.new.len ≡ self.old.len + entry_size * length clock.now }
         ensures adds { (bs : List ℕ) → self.old ≡ framed bs → self.new ≡ framed (bs ++ flat_map le4 clock.now) }
-        ensures typed { All (λ v. v < 2 ^ 32) clock.now }
+        ensures typed { AllByRecursion (λ v. v < 2 ^ 32) clock.now }
     {
         for entry in clock {
             self.add(&entry.to_le_bytes());
@@ -67,7 +67,7 @@ impl Frame {
     fn add_lines(&mut self, body: &Body)
         requires { self.old.len ≡ fixed_size tower_limit }
         ensures adds { (bs : List ℕ) → self.old ≡ framed bs → self.new ≡ framed (bs ++ flat_map line_bytes (lines_of body.now)) }
-        ensures typed { All TypedLine (lines_of body.now) }
+        ensures typed { AllByRecursion TypedLine (lines_of body.now) }
         ensures places { Places body.now }
     {
         for i in 0..body.lines() {

@@ -3,7 +3,7 @@ use Rattle.std.proofs.Common.{◌≡◌, ℕ, suc, ◌+◌, ◌<◌, ◌≤◌, 
 use Rattle.std.proofs.lemmas.List.{take_more, take_all, drop_more, get_or-drop, length-drop, append-nil, length-append, take-append-drop, get_or_at}
 use Rattle.std.proofs.lemmas.Option.{slice_get-get_or}
 use Rattle.std.proofs.lemmas.Bool.{eq-eqb, ne_eqb, cases_eq}
-use Rattle.std.specs.List.{AllByRecursion as All, slice_get}
+use Rattle.std.specs.List.{AllByRecursion, slice_get}
 use Rattle.clocks.specs.declared.Clock.{Clock}
 use Rattle.clocks.specs.declared.Version.{Version}
 use Rattle.book.specs.Books.{with_one}
@@ -63,13 +63,13 @@ list_pushed rs r k = list_append rs (r ∷ []) k ∙ elim (cases_eq r.key k) [
 ]
 
 -- what holds of each record of the key holds of the key's versions
-all_listed : (P : Version → Type 0) (key : ℕ) (z : Record) (rs : List Record) → ((k : ℕ) → k < length rs → (get_or rs k z).key ≡ key → P (get_or rs k z).version) → All P (list_of rs key)
+all_listed : (P : Version → Type 0) (key : ℕ) (z : Record) (rs : List Record) → ((k : ℕ) → k < length rs → (get_or rs k z).key ≡ key → P (get_or rs k z).version) → AllByRecursion P (list_of rs key)
 all_listed P key z [] h = tt
 all_listed P key z (r ∷ rs) h =
     let rest = all_listed P key z rs (λ k l. h (suc k) (omega arith)) in
     elim (cases_eq r.key key) [
-      | inl q ↦ subst (λ (vs : List Version). All P vs) (sym (list_yes r rs key q)) (h 0 (omega arith) q, rest)
-      | inr q ↦ subst (λ (vs : List Version). All P vs) (sym (list_no r rs key q)) rest
+      | inl q ↦ subst (λ (vs : List Version). AllByRecursion P vs) (sym (list_yes r rs key q)) (h 0 (omega arith) q, rest)
+      | inr q ↦ subst (λ (vs : List Version). AllByRecursion P vs) (sym (list_no r rs key q)) rest
     ]
 
 -- the version at a place, if there is one

@@ -1,6 +1,6 @@
 -- Which messages have a frame: `valid` has the rules of the format, and `Typed` the ranges that the types of the fields give.
 use Rattle.std.specs.Prelude.{◌≡◌, ℕ, ◌^◌, ◌<◌, Bool, true, ◌&&◌, List, [], ◌∷◌, length, drop, Some, None, Option, ◌==◌, nat_le, nat_lt}
-use Rattle.std.specs.List.{AllByRecursion as All}
+use Rattle.std.specs.List.{AllByRecursion}
 use Rattle.clocks.specs.Clocks.{tower_limit}
 use Rattle.clocks.specs.declared.Version.{Version}
 use Rattle.messages.specs.Limits.{line_limit, transaction_limit}
@@ -74,9 +74,9 @@ Places (Decided Refused) = Unit {0}
 
 pub record Typed (m : Message) : Type 0 where
   pub entries : length m.clock.entries ≡ tower_limit
-  pub clock : All (λ v. v < 2 ^ 32) m.clock.entries
+  pub clock : AllByRecursion (λ v. v < 2 ^ 32) m.clock.entries
   pub number : number_of m.body < 2 ^ 32
-  pub lines : All TypedLine (lines_of m.body)
+  pub lines : AllByRecursion TypedLine (lines_of m.body)
   pub places : Places m.body
 
 -- a message that has a frame

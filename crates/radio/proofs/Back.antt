@@ -1,7 +1,7 @@
 -- What is sent is heard as it was.
 use Rattle.std.proofs.Common.{◌≡◌, ℕ, zero, suc, ◌-◌, ◌^◌, ◌<◌, ◌≤◌, true, ◌&&◌, ltb, leb, List, [], ◌∷◌, ◌++◌, map, length, get_or, drop, replicate, Some, None, sym, refl, ap, ◌∙◌, inl, inr, arith, lit<, length-append}
 use mathlib.Core.Path.{fun_ext}
-use Rattle.std.specs.List.{AllByRecursion as All}
+use Rattle.std.specs.List.{AllByRecursion}
 use Rattle.std.proofs.lemmas.List.{drop_at, length-replicate}
 use Rattle.std.proofs.lemmas.Bool.{and_from, lt-ltb, le-leb, ltb-true}
 use Rattle.clocks.specs.Clocks.{tower_limit}
@@ -33,7 +33,7 @@ entries_at zero c h j = sym (h j (omega arith))
 entries_at (suc n) c h zero = refl
 entries_at (suc n) c h (suc j) = entries_at n (λ i. c (suc i)) (λ i l. h (suc i) (omega arith)) j
 
-entries-small : (n : ℕ) (c : Clock) (b : ℕ) → ((j : ℕ) → c j < b) → All (λ v. v < b) (entries_of n c)
+entries-small : (n : ℕ) (c : Clock) (b : ℕ) → ((j : ℕ) → c j < b) → AllByRecursion (λ v. v < b) (entries_of n c)
 entries-small zero c b h = tt
 entries-small (suc n) c b h = (h 0, entries-small n (λ j. c (suc j)) b (λ j. h (suc j)))
 
@@ -51,14 +51,14 @@ fit_drafts_lem ds h =
 places : (ds : List Draft) → length ds ≤ line_limit → length (ds ++ replicate (line_limit - length ds) blank) ≡ line_limit
 places ds h = simp (length-append, length-replicate) (omega arith)
 
-draft_lines : (net : Net) (ds : List Draft) → ((d : Draft) → In d ds → (d.key < net.keys) × (small d.content ≡ true)) → All TypedLine (map draft_line ds)
+draft_lines : (net : Net) (ds : List Draft) → ((d : Draft) → In d ds → (d.key < net.keys) × (small d.content ≡ true)) → AllByRecursion TypedLine (map draft_line ds)
 draft_lines net [] h = tt
 draft_lines net (d ∷ ds) h = (
   record { writer = lit< tt; number = lit< tt; value = ltb-true d.content.value (2 ^ 32) (h d (inl refl)).1 },
   draft_lines net ds (λ e i. h e (inr i)),
 )
 
-drafts-typed : (net : Net) (ds : List Draft) → ((d : Draft) → In d ds → (d.key < net.keys) × (small d.content ≡ true)) → All TypedLine (map draft_line (counted (drafts_of ds)))
+drafts-typed : (net : Net) (ds : List Draft) → ((d : Draft) → In d ds → (d.key < net.keys) × (small d.content ≡ true)) → AllByRecursion TypedLine (map draft_line (counted (drafts_of ds)))
 drafts-typed net ds h = rw (counted_of ds) (draft_lines net ds h)
 
 module _ (net : Net) (fits : FitsFrames net) where
@@ -92,7 +92,7 @@ module _ (net : Net) (fits : FitsFrames net) where
   number_small (granted n ls) h = omega (arith, h.1, fits.transactions)
   number_small refused h = lit< tt
 
-  conflict_typed : (a : Objection) → FitNamed net (Some a) → All TypedLine (lines_of (sent_body (vote (Some a))))
+  conflict_typed : (a : Objection) → FitNamed net (Some a) → AllByRecursion TypedLine (lines_of (sent_body (vote (Some a))))
   conflict_typed a h = (by a.conflict h.1, tt)
     where
       by : (c : Conflict) → FitConflict net c → TypedLine (conflict_line a.key c)
@@ -100,7 +100,7 @@ module _ (net : Net) (fits : FitsFrames net) where
       by (Newer o w n) k = record { writer = omega (arith, k.1, fits.transactions); number = omega (arith, k.3, fits.transactions); value = lit< tt }
       by Full k = record { writer = lit< tt; number = lit< tt; value = lit< tt }
 
-  lines-typed : (b : Body) → FitBody net small b → All TypedLine (lines_of (sent_body b))
+  lines-typed : (b : Body) → FitBody net small b → AllByRecursion TypedLine (lines_of (sent_body b))
   lines-typed (query k first) h = (record { writer = lit< tt; number = lit< tt; value = lit< tt }, tt)
   lines-typed (answer k None) h = (record { writer = lit< tt; number = lit< tt; value = lit< tt }, tt)
   lines-typed (answer k (Some x)) h = (

@@ -1,5 +1,5 @@
 use Rattle.std.proofs.Common.{◌≡◌, ◌<◌, ◌++◌, length, get_or, sym, ap, ◌∙◌, subst, arith}
-use Rattle.std.specs.List.{flat_map, AllByRecursion as All}
+use Rattle.std.specs.List.{flat_map, AllByRecursion}
 use Rattle.std.proofs.lemmas.List.{take_all}
 use Rattle.messages.specs.Table.{lines_of}
 use Rattle.frames.specs.Layout.{line_bytes}
@@ -35,6 +35,6 @@ returns c =
     let all = take_all c.loop-i.i ls (omega (arith, c.lines-i-end.ensures.count)) in
     record {
       adds = λ bs h. c.loop-i.invariant.1 bs h ∙ ap (λ q. framed (bs ++ flat_map line_bytes q)) all;
-      typed = subst (All TypedLine) all c.loop-i.invariant.2;
+      typed = subst (AllByRecursion TypedLine) all c.loop-i.invariant.2;
       places = c.lines-i-end.ensures.places;
     }
