@@ -72,6 +72,16 @@ def lemma(name, known):
     return "-".join(groups)
 
 
+def beside(found, turned):
+    """The lemmas that would have the name of a definition that stands in a file with them."""
+    lemmas = set()
+    for p, t in texts():
+        words = set(re.findall(rf"(?<![\w'-])({WORD})(?![\w'-])", t)) & set(found)
+        definitions = {turned.get(w, w) for w in words if not found[w][1]}
+        lemmas |= {w for w in words if found[w][1] and turned.get(w, w) in definitions}
+    return lemmas
+
+
 def names():
     found = {}
     for p, t in texts():
@@ -91,11 +101,8 @@ def names():
         if name in turned or MADE.match(name) or not re.search(r"-|[a-z][A-Z]", name):
             continue
         turned[name] = GIVEN.get(name) or (lemma(name, known) if proofs else snake(name).replace("-", "_"))
-    definitions = {turned.get(n, n) for n, (kind, proofs) in found.items() if not proofs}
-    for name, (kind, proofs) in found.items():
-        new = turned.get(name, name)
-        if proofs and new in definitions:
-            turned[name] = new + "_lem"
+    for name in beside(found, turned):
+        turned[name] = turned.get(name, name) + "_lem"
     return {a: b for a, b in turned.items() if a != b}
 
 

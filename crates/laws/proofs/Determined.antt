@@ -116,14 +116,14 @@ pub answers_determined : AnswersDetermined
 answers_determined net v v' v'' c a b x y = determined net v x y
 
 -- in a net that a run has reached, a call tells and does what it should by its first fault
-abbrev pub answer_of_lem : (net : Net) (v : Visible) (c : Call) → Option Cause → Result
-answer_of_lem net v c (Some f) = result (Fault f) v
-answer_of_lem net v c None = of_call net v c
+abbrev pub answer_of : (net : Net) (v : Visible) (c : Call) → Option Cause → Result
+answer_of net v c (Some f) = result (Fault f) v
+answer_of net v c None = of_call net v c
 
-pub answered : (net : Net) (h : List Event) (v : Visible) → Run net h v → (c : Call) → let r = answer_of_lem net v c (first_fault net v c) in Step net v r.state c r.told
+pub answered : (net : Net) (h : List Event) (v : Visible) → Run net h v → (c : Call) → let r = answer_of net v c (first_fault net v c) in Step net v r.state c r.told
 answered net h v run c = go (first_fault net v c) refl
   where
-    go : (o : Option Cause) → first_fault net v c ≡ o → Step net v (answer_of_lem net v c o).state c (answer_of_lem net v c o).told
+    go : (o : Option Cause) → first_fault net v c ≡ o → Step net v (answer_of net v c o).state c (answer_of net v c o).told
     go (Some f) e = fails f e refl
     go None e =
         let r = obeyed net h v run c e in

@@ -15,7 +15,7 @@ use Rattle.laws.proofs.Lists.{tally-none}
 use Rattle.laws.proofs.Stand.{run_holds}
 use Rattle.laws.proofs.Ranges.{begun-phase}
 use Rattle.laws.proofs.Histories.{run_linked}
-use Rattle.laws.proofs.Lawful.{count_told, told_of_lem, laws_stand}
+use Rattle.laws.proofs.Lawful.{count_told, told_of, laws_stand}
 use Rattle.laws.proofs.Further.{always}
 
 -- ## A list of different numbers below n is no longer than n
@@ -82,7 +82,7 @@ run_small net h v r t j = go (placed-few net h v (laws_stand net h v r)) (always
     behind net h s r t j =
         let v = run_holds net r in
         let l = run_linked net r in
-        let e : count s.placed j ≡ tally (λ i. eqb (origin_in h i) j) (placed_in h) = count_told h s.placed j (told_of_lem net h s v l) ∙ ap (λ (is : List ℕ). tally (λ i. eqb (origin_in h i) j) is) l.placed in
+        let e : count s.placed j ≡ tally (λ i. eqb (origin_in h i) j) (placed_in h) = count_told h s.placed j (told_of net h s v l) ∙ ap (λ (is : List ℕ). tally (λ i. eqb (origin_in h i) j) is) l.placed in
         (omega (arith, v.clocks.behind t j, e, tally-length (λ i. eqb (origin_in h i) j) (placed_in h)), l.begun)
 
     go : length (placed_in h) ≤ begun_in h → (v.clocks t j ≤ length (placed_in h)) × (v.begun ≡ begun_in h) → v.clocks t j ≤ v.begun

@@ -24,7 +24,7 @@ use Rattle.laws.proofs.Shown.{in_written}
 use Rattle.laws.proofs.Stand.{run_holds, facts_stand}
 use Rattle.laws.proofs.Ranges.{run_ranges, message-begun}
 use Rattle.laws.proofs.Histories.{txs, Linked, run_linked}
-use Rattle.laws.proofs.Lawful.{count_told, placed_at, in_txs, told_of_lem, bound_of, one, versions_are, within_of, of_within, origin_is, outside_of, lawful}
+use Rattle.laws.proofs.Lawful.{count_told, placed_at, in_txs, told_of, bound_of, one, versions_are, within_of, of_within, origin_is, outside_of, lawful}
 use Rattle.laws.proofs.More.{More, run_more, below, those_fewer}
 use Rattle.laws.proofs.Early.{before-placed, before-begun, run_early}
 
@@ -85,7 +85,7 @@ module _ (net : Net) (h : List Event) (s : State) (v : Invariant net s) (l : Lin
         let c = v.outcomes.coming E t y.1 lt (λ e. d (e ∙ origin_is net h s v l E x y.1 y.2)) (not_seen E x (s.vis.clocks t) y.1 y.2 o) in
         (granted_to net E t, E.number, homed net t E.drafts, c, y.2, refl, refl);
     pending = pending_is;
-    balance = λ t o lt. g.owed.balance t o lt ∙ count_told h s.placed o (told_of_lem net h s v l) ∙ ap (λ (is : List ℕ). tally (λ i. eqb (origin_in h i) o) is) l.placed;
+    balance = λ t o lt. g.owed.balance t o lt ∙ count_told h s.placed o (told_of net h s v l) ∙ ap (λ (is : List ℕ). tally (λ i. eqb (origin_in h i) o) is) l.placed;
   }
 
 pub clocks_accounted : Always Accounted
@@ -248,7 +248,7 @@ module _ (net : Net) (h : List Event) (s : State) (v : Invariant net s) (l : Lin
             | inr full ↦ (
                 let none : s.vis.book k ≡ [] = law.replay (λ m n ls q _. nothing m q) k ∙ sym (versions_are net h s v l k) ∙ versions_none s.placed k (λ E q d. elim (cases_eq E.tx i) [
                   | inl t ↦ differ Granted Refused refl (v.granteds E q).0 (ap (λ (n : ℕ). (s.vis.records n).phase) t ∙ c)
-                  | inr t ↦ others E.tx t (subst (λ (ds : List Draft). Drafted ds k) (told_of_lem net h s v l E q).1 d)
+                  | inr t ↦ others E.tx t (subst (λ (ds : List Draft). Drafted ds k) (told_of net h s v l E q).1 d)
                 ]) in
                 let f : length (s.vis.book k) ≡ 1 = subst (λ (n : ℕ). length (s.vis.book n) ≡ net.depth) e full ∙ deep in
                 omega (arith, f, ap length none))

@@ -23,7 +23,7 @@ use Rattle.laws.proofs.Calls.{homed-drafted, each-prepare}
 use Rattle.laws.proofs.Voting.{holds_cases, each-refusal}
 use Rattle.laws.proofs.Granting.{each_grant}
 use Rattle.laws.proofs.Stand.{run_holds, intent_drafted}
-use Rattle.laws.proofs.More.{drafts_of_lem, More, run_more, those_fewer}
+use Rattle.laws.proofs.More.{drafts_of, More, run_more, those_fewer}
 use Rattle.laws.proofs.Histories.{txs, length_txs, Linked, run_linked}
 use Rattle.laws.proofs.Places.{Places, run-places}
 use Rattle.laws.proofs.Lawful.{placed_at, numbered_as}
@@ -154,11 +154,11 @@ module _ (net : Net) (s : State) (i : ℕ) (v : Invariant net s) (g : Kept net s
 
 -- ## A home agrees
 
-holds_tally : (i o : ℕ) (ds : List Draft) (k : ℕ) → tally (λ h. eqb h.key k) (holds_of i o ds) ≡ drafts_of_lem k ds
+holds_tally : (i o : ℕ) (ds : List Draft) (k : ℕ) → tally (λ h. eqb h.key k) (holds_of i o ds) ≡ drafts_of k ds
 holds_tally i o [] k = refl
 holds_tally i o (d ∷ ds) k = rw (holds_tally i o ds k)
 
-undrafted : (ds : List Draft) (k : ℕ) → (Drafted ds k → ⊥) → drafts_of_lem k ds ≡ 0
+undrafted : (ds : List Draft) (k : ℕ) → (Drafted ds k → ⊥) → drafts_of k ds ≡ 0
 undrafted [] k n = refl
 undrafted (d ∷ ds) k n = rw (ne_eqb d.key k (λ e. n (inl e))) (omega (arith, undrafted ds k (λ x. n (inr x))))
 
@@ -179,11 +179,11 @@ module _ (net : Net) (s : State) (p : ℕ) (m : Message) (lines : List Draft) (v
   agrees-once : Once (s.vis.held ++ holds_of m.tx m.from lines)
   agrees-once k = go (drafted? lines k)
     where
-      both : tally (λ h. eqb h.key k) (s.vis.held ++ holds_of m.tx m.from lines) ≡ tally (λ h. eqb h.key k) s.vis.held + drafts_of_lem k lines
+      both : tally (λ h. eqb h.key k) (s.vis.held ++ holds_of m.tx m.from lines) ≡ tally (λ h. eqb h.key k) s.vis.held + drafts_of k lines
       both = tally-append (λ h. eqb h.key k) s.vis.held (holds_of m.tx m.from lines) ∙ ap (λ (z : ℕ). tally (λ h. eqb h.key k) s.vis.held + z) (holds_tally m.tx m.from lines k)
 
-      few : drafts_of_lem k lines ≤ 1
-      few = subst (λ (ds : List Draft). drafts_of_lem k ds ≤ 1) (sym the_lines) (omega (arith, more.tidy m.tx k, those_fewer (λ d. eqb d.key k) (λ d. eqb (net.home d.key) m.to) (s.vis.records m.tx).drafts))
+      few : drafts_of k lines ≤ 1
+      few = subst (λ (ds : List Draft). drafts_of k ds ≤ 1) (sym the_lines) (omega (arith, more.tidy m.tx k, those_fewer (λ d. eqb d.key k) (λ d. eqb (net.home d.key) m.to) (s.vis.records m.tx).drafts))
 
       free : Drafted lines k → (h : Held) → In h s.vis.held → eqb h.key k ≡ false
       free d h q = ne_eqb h.key k (λ e. elim (cases_eq h.tx m.tx) [

@@ -126,8 +126,8 @@ each_showed h v (d ∷ rds) f = each_more h v (received_of rds) (noted rds) _ _ 
 -- ## The laws
 
 module _ (net : Net) (h : List Event) (s : State) (v : Invariant net s) (l : Linked h s) where
-  pub told_of_lem : ToldOf h s.placed
-  told_of_lem E g =
+  pub told_of : ToldOf h s.placed
+  told_of E g =
       let e = (v.granteds E g).1 in
       (ap (λ (x : Placement). x.origin) e ∙ l.origins E.tx, ap (λ (x : Placement). x.drafts) e ∙ l.drafts E.tx)
 
@@ -138,23 +138,23 @@ module _ (net : Net) (h : List Event) (s : State) (v : Invariant net s) (l : Lin
   one E F = placed-once s.placed s.vis.records E F v.granteds
 
   pub versions_are : (k : ℕ) → versions s.placed k ≡ versions_in h k
-  versions_are k = versions_told h s.placed k told_of_lem v.order.numbered ∙ ap (λ (is : List ℕ). versions_of h is k) l.placed
+  versions_are k = versions_told h s.placed k told_of v.order.numbered ∙ ap (λ (is : List ℕ). versions_of h is k) l.placed
 
   pub numbered_as : (E : Placement) → In E s.placed → number_in h E.tx ≡ Some E.number
-  numbered_as E g = subst (λ (is : List ℕ). number_of h E.tx is ≡ Some E.number) l.placed (number-found h s.placed E told_of_lem v.order.numbered one g)
+  numbered_as E g = subst (λ (is : List ℕ). number_of h E.tx is ≡ Some E.number) l.placed (number-found h s.placed E told_of v.order.numbered one g)
 
   pub within_of : (E : Placement) → In E s.placed → (b : Clock) → Seen E b → Within h E.tx b
   within_of E g b u = (
     E.number,
     numbered_as E g,
-    subst (λ (o : ℕ). E.number ≤ b o) (told_of_lem E g).0 u,
+    subst (λ (o : ℕ). E.number ≤ b o) (told_of E g).0 u,
   )
 
   pub of_number : (i n : ℕ) → number_in h i ≡ Some n → (E : Placement) × In E s.placed × (E.tx ≡ i) × (E.number ≡ n)
-  of_number i n e = number-back h s.placed i n told_of_lem v.order.numbered (subst (λ (is : List ℕ). number_of h i is ≡ Some n) (sym l.placed) e)
+  of_number i n e = number-back h s.placed i n told_of v.order.numbered (subst (λ (is : List ℕ). number_of h i is ≡ Some n) (sym l.placed) e)
 
   pub origin_is : (E : Placement) (i : ℕ) → In E s.placed → E.tx ≡ i → E.origin ≡ origin_in h i
-  origin_is E i g q = (told_of_lem E g).0 ∙ ap (origin_in h) q
+  origin_is E i g q = (told_of E g).0 ∙ ap (origin_in h) q
 
   pub of_within : (i : ℕ) (b : Clock) → Within h i b → (E : Placement) × In E s.placed × (E.tx ≡ i) × Seen E b
   of_within i b w =
@@ -184,8 +184,8 @@ module _ (net : Net) (h : List Event) (s : State) (v : Invariant net s) (l : Lin
       let T = r.1 in
       let gE = before_in E T s.placed r.2 in
       let gT = after_in E T s.placed r.2 in
-      let dE : Drafted E.drafts k = rw ((told_of_lem E gE).1, r.3) dx in
-      let dT : Drafted T.drafts k = rw ((told_of_lem T gT).1, r.4) dy in
+      let dE : Drafted E.drafts k = rw ((told_of E gE).1, r.3) dx in
+      let dT : Drafted T.drafts k = rw ((told_of T gT).1, r.4) dy in
       let b : T.bound ≡ (s.vis.records y).bound = bound_of T gT ∙ ap (λ (i : ℕ). (s.vis.records i).bound) r.4 in
       subst (λ (i : ℕ). Within h i (s.vis.records y).bound) r.3 (within_of E gE (s.vis.records y).bound (subst (Seen E) b (f.seen E T k r.2 dE dT)))
 

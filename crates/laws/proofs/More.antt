@@ -33,11 +33,11 @@ abbrev pub Ready : (ℕ → Record) → Type 0
 Ready rs = (i : ℕ) → (rs i).phase ≡ Closing → 0 < (rs i).awaited
 
 -- how often the key is drafted
-abbrev pub drafts_of_lem : ℕ → List Draft → ℕ
-drafts_of_lem k ds = tally (λ d. eqb d.key k) ds
+abbrev pub drafts_of : ℕ → List Draft → ℕ
+drafts_of k ds = tally (λ d. eqb d.key k) ds
 
 abbrev pub Tidy : (ℕ → Record) → Type 0
-Tidy rs = (i k : ℕ) → drafts_of_lem k (rs i).drafts ≤ 1
+Tidy rs = (i k : ℕ) → drafts_of k (rs i).drafts ≤ 1
 
 abbrev pub Roomy : Net → (ℕ → List Version) → Type 0
 Roomy net book = (k : ℕ) → length (book k) ≤ net.depth
@@ -57,8 +57,8 @@ pub record More (net : Net) (s : State) : Type 0 where
 ready_put : (rs : ℕ → Record) (i : ℕ) (r : Record) → Ready rs → (r.phase ≡ Closing → 0 < r.awaited) → Ready (put rs i r)
 ready_put rs i r g e = put_all (λ x. x.phase ≡ Closing → 0 < x.awaited) rs i r e g
 
-tidy_put : (rs : ℕ → Record) (i : ℕ) (r : Record) → Tidy rs → ((k : ℕ) → drafts_of_lem k r.drafts ≤ 1) → Tidy (put rs i r)
-tidy_put rs i r g e j k = put_all (λ x. drafts_of_lem k x.drafts ≤ 1) rs i r (e k) (λ j. g j k) j
+tidy_put : (rs : ℕ → Record) (i : ℕ) (r : Record) → Tidy rs → ((k : ℕ) → drafts_of k r.drafts ≤ 1) → Tidy (put rs i r)
+tidy_put rs i r g e j k = put_all (λ x. drafts_of k x.drafts ≤ 1) rs i r (e k) (λ j. g j k) j
 
 growing_put : (rs : ℕ → Record) (i : ℕ) (r : Record) (air : List Message) → r.bound ≡ (rs i).bound → Growing rs air → Growing (put rs i r) air
 growing_put rs i r air e g m k v h b = rw (put_keeps (λ x. x.bound) rs i r e m.tx) (g m k v h b)
@@ -81,37 +81,37 @@ ballot_dumb m e k v b = both_ways false refl (sym (ap is_ballot b) ∙ e)
 
 -- ## Drafts
 
-redraft_other : (k : ℕ) (v : Content) (j : ℕ) (ds : List Draft) → k ≢ j → drafts_of_lem j (redrafted k v ds) ≡ drafts_of_lem j ds
+redraft_other : (k : ℕ) (v : Content) (j : ℕ) (ds : List Draft) → k ≢ j → drafts_of j (redrafted k v ds) ≡ drafts_of j ds
 redraft_other k v j [] d = rw (ne_eqb k j d) (omega arith)
 redraft_other k v j (x ∷ ds) d = go (redraft_other k v j ds d) (cases_eq x.key k)
   where
-    go : drafts_of_lem j (redrafted k v ds) ≡ drafts_of_lem j ds → (x.key ≡ k) ⊎ (x.key ≡ k → ⊥) → drafts_of_lem j (cond (eqb x.key k) (record { key = k; content = v } ∷ ds) (x ∷ redrafted k v ds)) ≡ drafts_of_lem j (x ∷ ds)
+    go : drafts_of j (redrafted k v ds) ≡ drafts_of j ds → (x.key ≡ k) ⊎ (x.key ≡ k → ⊥) → drafts_of j (cond (eqb x.key k) (record { key = k; content = v } ∷ ds) (x ∷ redrafted k v ds)) ≡ drafts_of j (x ∷ ds)
     go ih (inl e) = rw (eq-eqb x.key k e, e)
     go ih (inr n) = rw (ne_eqb x.key k n, ih)
 
-redraft_same : (k : ℕ) (v : Content) (ds : List Draft) → drafts_of_lem k ds ≤ 1 → drafts_of_lem k (redrafted k v ds) ≤ 1
+redraft_same : (k : ℕ) (v : Content) (ds : List Draft) → drafts_of k ds ≤ 1 → drafts_of k (redrafted k v ds) ≤ 1
 redraft_same k v [] l = rw (eq-eqb k k refl) (omega arith)
 redraft_same k v (x ∷ ds) l = go (redraft_same k v ds) (cases_eq x.key k)
   where
-    go : (drafts_of_lem k ds ≤ 1 → drafts_of_lem k (redrafted k v ds) ≤ 1) → (x.key ≡ k) ⊎ (x.key ≡ k → ⊥) → drafts_of_lem k (cond (eqb x.key k) (record { key = k; content = v } ∷ ds) (x ∷ redrafted k v ds)) ≤ 1
+    go : (drafts_of k ds ≤ 1 → drafts_of k (redrafted k v ds) ≤ 1) → (x.key ≡ k) ⊎ (x.key ≡ k → ⊥) → drafts_of k (cond (eqb x.key k) (record { key = k; content = v } ∷ ds) (x ∷ redrafted k v ds)) ≤ 1
     go ih (inl e) =
-        let l' : cond (eqb k k) 1 0 + drafts_of_lem k ds ≤ 1 = subst (λ (y : ℕ). cond (eqb y k) 1 0 + drafts_of_lem k ds ≤ 1) e l in
+        let l' : cond (eqb k k) 1 0 + drafts_of k ds ≤ 1 = subst (λ (y : ℕ). cond (eqb y k) 1 0 + drafts_of k ds ≤ 1) e l in
         rw (eq-eqb x.key k e) l'
     go ih (inr n) =
-        let l' : 0 + drafts_of_lem k ds ≤ 1 = rw (ne_eqb x.key k n) at l in
+        let l' : 0 + drafts_of k ds ≤ 1 = rw (ne_eqb x.key k n) at l in
         rw (ne_eqb x.key k n, ne_eqb x.key k n) (omega (arith, ih (omega (arith, l'))))
 
-redraft_tidy : (k : ℕ) (v : Content) (j : ℕ) (ds : List Draft) → ((i : ℕ) → drafts_of_lem i ds ≤ 1) → drafts_of_lem j (redrafted k v ds) ≤ 1
+redraft_tidy : (k : ℕ) (v : Content) (j : ℕ) (ds : List Draft) → ((i : ℕ) → drafts_of i ds ≤ 1) → drafts_of j (redrafted k v ds) ≤ 1
 redraft_tidy k v j ds g = elim (cases_eq k j) [
-  | inl e ↦ subst (λ (n : ℕ). drafts_of_lem n (redrafted k v ds) ≤ 1) e (redraft_same k v ds (g k))
+  | inl e ↦ subst (λ (n : ℕ). drafts_of n (redrafted k v ds) ≤ 1) e (redraft_same k v ds (g k))
   | inr n ↦ omega (arith, redraft_other k v j ds n, g j)
 ]
 
-length-written : (w o n : ℕ) (ds : List Draft) (k : ℕ) → length (written w o n ds k) ≡ drafts_of_lem k ds
+length-written : (w o n : ℕ) (ds : List Draft) (k : ℕ) → length (written w o n ds k) ≡ drafts_of k ds
 length-written w o n [] k = refl
 length-written w o n (d ∷ ds) k = go (length-written w o n ds k) (eqb d.key k)
   where
-    go : length (written w o n ds k) ≡ drafts_of_lem k ds → (b : Bool) → length (cond b (record { writer = w; origin = o; number = n; content = d.content } ∷ written w o n ds k) (written w o n ds k)) ≡ cond b 1 0 + drafts_of_lem k ds
+    go : length (written w o n ds k) ≡ drafts_of k ds → (b : Bool) → length (cond b (record { writer = w; origin = o; number = n; content = d.content } ∷ written w o n ds k) (written w o n ds k)) ≡ cond b 1 0 + drafts_of k ds
     go ih true = omega (arith, ih)
     go ih false = omega (arith, ih)
 
@@ -129,7 +129,7 @@ pub below : (a b : ℕ) → a ≤ b → (a ≡ b → ⊥) → a < b
 below a b l n = omega (arith, l, n)
 
 -- a tower takes in what has its keys held
-added_roomy : (net : Net) (book : ℕ → List Version) (t : ℕ) (T : Placement) → ((k : ℕ) → drafts_of_lem k T.drafts ≤ 1) → ((k : ℕ) → Drafted T.drafts k → net.home k ≡ t → length (book k) ≡ net.depth → ⊥) → Roomy net book → Roomy net (added net book t T)
+added_roomy : (net : Net) (book : ℕ → List Version) (t : ℕ) (T : Placement) → ((k : ℕ) → drafts_of k T.drafts ≤ 1) → ((k : ℕ) → Drafted T.drafts k → net.home k ≡ t → length (book k) ≡ net.depth → ⊥) → Roomy net book → Roomy net (added net book t T)
 added_roomy net book t T tidy room g k = go (drafted? (homed net t T.drafts) k)
   where
     ls : List Draft
@@ -168,7 +168,7 @@ begins-more net s t v g =
     }
 
 -- a record's phase, drafts or votes change, and nothing else
-amend_more : (net : Net) (s : State) (i : ℕ) (r : Record) → More net s → (r.phase ≡ Closing → 0 < r.awaited) → ((k : ℕ) → drafts_of_lem k r.drafts ≤ 1) → r.bound ≡ (s.vis.records i).bound →
+amend_more : (net : Net) (s : State) (i : ℕ) (r : Record) → More net s → (r.phase ≡ Closing → 0 < r.awaited) → ((k : ℕ) → drafts_of k r.drafts ≤ 1) → r.bound ≡ (s.vis.records i).bound →
     More net (on s (amended s.vis i r))
 amend_more net s i r g a b c = record {
   ready = ready_put s.vis.records i r g.ready a;
@@ -248,7 +248,7 @@ takes_more net s p m n lines v g ripe e f =
         let r : Ripe net s.vis p (granted_to net T t) = subst (Ripe net s.vis p) q ripe in
         let f' : suc (s.vis.clocks t T.origin) ≡ T.number = subst (λ (x : Message). suc (s.vis.clocks x.to x.from) ≡ n) q f ∙ en in
         let un : Seen T (s.vis.clocks t) → ⊥ = λ u. omega (arith, u, f') in
-        let tidy : (k : ℕ) → drafts_of_lem k T.drafts ≤ 1 = λ k. subst (λ (ds : List Draft). drafts_of_lem k ds ≤ 1) (sym (ap (λ (x : Placement). x.drafts) (v.granteds T h).1)) (g.tidy T.tx k) in
+        let tidy : (k : ℕ) → drafts_of k T.drafts ≤ 1 = λ k. subst (λ (ds : List Draft). drafts_of k ds ≤ 1) (sym (ap (λ (x : Placement). x.drafts) (v.granteds T h).1)) (g.tidy T.tx k) in
         let room : (k : ℕ) → Drafted T.drafts k → net.home k ≡ t → length (s.vis.book k) ≡ net.depth → ⊥ = λ k d y.
         v.holders.room k T.tx (v.holders.until k T h d (subst (λ (u : ℕ). Seen T (s.vis.clocks u) → ⊥) (sym y) un)) in
         rw (en, el, q) (added_roomy net s.vis.book t T tidy room g.roomy, took_owed net s.placed s.vis.clocks s.vis.air p t T r.there f' v.order.numbered h g.owed)

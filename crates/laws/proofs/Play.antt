@@ -6,7 +6,7 @@ use Rattle.laws.specs.Words.{Event}
 use Rattle.laws.specs.State.{Visible, new}
 use Rattle.laws.specs.Faults.{first_fault}
 use Rattle.laws.specs.Rules.{Run, start, then}
-use Rattle.laws.proofs.Determined.{answer_of_lem, answered}
+use Rattle.laws.proofs.Determined.{answer_of, answered}
 
 pub record Played : Type 0 where
   pub history : List Event
@@ -17,7 +17,7 @@ abbrev pub play : Net → List Call → Played
 play net [] = record { history = []; state = new }
 play net (c ∷ cs) =
     let s = play net cs in
-    let r = answer_of_lem net s.state c (first_fault net s.state c) in
+    let r = answer_of net s.state c (first_fault net s.state c) in
     record { history = record { call = c; told = r.told } ∷ s.history; state = r.state }
 
 pub played : (net : Net) (cs : List Call) → Run net (play net cs).history (play net cs).state
