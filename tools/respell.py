@@ -5,9 +5,9 @@ usage: python3 tools/respell.py [--list]     at the top of the repository, once,
 
 Types and facts are in upper camel case (`Last-within` becomes `LastWithin`), all else in snake case
 (`begun-at`, `bodyAt` become `begun_at`, `body_at`). In the name of a lemma a dash stays between two parts that are
-names themselves (`covers-true`), and a lemma that would have the name of a definition gets `_lem`. Functions of src/, names that the compiler makes (goals, invariants), strings and
-the names of the library keep their spelling. --list writes nothing and prints old and new names, and names that
-fall together.
+names themselves (`covers-true`), and a lemma that would have the name of a definition beside it gets `_lem`.
+Functions of src/, names that the compiler makes (goals, invariants), strings and the names of the library keep their
+spelling. --list writes nothing and prints old and new names, and names that fall together.
 """
 
 import glob
