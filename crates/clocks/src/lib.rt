@@ -9,35 +9,24 @@ pub const TOWERS: usize = 8;
 
 // A tower's clock: entry j counts the transactions begun at tower j that the tower has taken in.
 // A transaction's bound, the clock up to which it sees the book, has the same form.
-#[derive(Clone, Copy)]
+#[derive(Clone, Copy, Default)]
 pub struct Clock {
     pub entries: [u32; TOWERS],
 }
 
 // What a draft or a version says of its key. Only what reads and writes it for people or the radio looks inside.
-#[derive(Clone, Copy)]
+#[derive(Clone, Copy, PartialEq, Eq, Default)]
 pub struct Content {
     pub value: u32,
 }
 
 // A version of a key: the transaction that wrote it, the tower where that began, its count there (from 1) and what it says.
-#[derive(Clone, Copy)]
+#[derive(Clone, Copy, Default)]
 pub struct Version {
     pub writer: u16,
     pub origin: u8,
     pub number: u32,
     pub content: Content,
-}
-
-// The entry at an index, 0 where the list has none.
-fn entry(entries: &[u32], index: usize) -> u32
-    ensures { result ≡ slice_index entries.now index }
-{
-    if index < entries.len() {
-        entries[index]
-    } else {
-        0
-    }
 }
 
 // Whether no entry of the clock is smaller than that of the bound. The lists may be of any length: an entry that one lacks is 0.
@@ -46,7 +35,7 @@ pub fn covers(clock: &[u32], bound: &[u32]) -> bool
     ensures value { result ≡ covers clock.now bound.now }
 {
     for (i, least) in bound.iter().enumerate() {
-        if entry(clock, i) < *least {
+        if clock.get(i).copied().unwrap_or(0) < *least {
             return false;
         }
     }
@@ -58,10 +47,9 @@ pub fn within(origin: u8, number: u32, bound: &[u32]) -> bool
     ensures rule { MatchBool result (Within origin number bound.now) (Within origin number bound.now → ⊥) }
     ensures value { result ≡ within origin number bound.now }
 {
-    match bound.get(origin as usize) {
-        Some(most) => number <= *most,
-        None => false,
-    }
+    bound
+        .get(origin as usize)
+        .is_some_and(|most| number <= *most)
 }
 
 impl Clock {

@@ -5,10 +5,11 @@ ghost use Rattle.std.specs.Prelude.{◌≡◌, Some};
 ghost use Rattle.faults.specs.Table.{row_of, layer_word, plain};
 ghost use Rattle.faults.specs.Text.{fault_text};
 
+use std::error::Error;
 use std::fmt;
 
 // The part of the product that found the fault.
-#[derive(Clone, Copy)]
+#[derive(Clone, Copy, Debug, PartialEq, Eq)]
 pub enum Layer {
     Net,
     Frame,
@@ -16,36 +17,36 @@ pub enum Layer {
     Book,
 }
 
-// What was wrong, by the word that is printed for it. Two causes have the word `field`: a frame's and a script's.
-#[derive(Clone, Copy)]
+// What was wrong, by the number of the fault. Two causes have the word `field`: a frame's and a script's.
+#[derive(Clone, Copy, Debug, PartialEq, Eq)]
 pub enum Cause {
-    Tower,
-    Unknown,
-    Key,
-    Phase,
-    Full,
-    Drafts,
-    Air,
-    Message,
-    Early,
-    List,
-    Opening,
-    Length,
-    Kind,
-    FrameField,
-    Call,
-    ScriptField,
-    Number,
-    Order,
-    Size,
-    Shape,
-    BookKey,
-    Index,
-    Depth,
+    Tower = 1,
+    Unknown = 2,
+    Key = 3,
+    Phase = 4,
+    Full = 5,
+    Drafts = 6,
+    Air = 7,
+    Message = 8,
+    Early = 9,
+    List = 10,
+    Opening = 11,
+    Length = 20,
+    Kind = 21,
+    FrameField = 22,
+    Call = 30,
+    ScriptField = 31,
+    Number = 32,
+    Order = 33,
+    Size = 34,
+    Shape = 40,
+    BookKey = 41,
+    Index = 42,
+    Depth = 43,
 }
 
 // A fault: its cause, and the place where it was found. Only faults of a script's fields have a place other than 0.
-#[derive(Clone, Copy)]
+#[derive(Clone, Copy, Debug, PartialEq, Eq)]
 pub struct Fault {
     pub cause: Cause,
     pub at: u32,
@@ -65,73 +66,75 @@ impl Layer {
     }
 }
 
-// What the table has for a cause.
-#[derive(Clone, Copy)]
-struct Row {
-    number: u8,
-    layer: Layer,
-    word: &'static str,
-}
+// A layer as it is printed.
+impl fmt::Display for Layer {
+    ghost output = { λ l. Some (layer_word l) };
 
-impl Row {
-    fn new(number: u8, layer: Layer, word: &'static str) -> Row
-        ensures { (result.number ≡ number) × (result.layer ≡ layer) × (result.word.now ≡ word.now) }
-    {
-        Row {
-            number,
-            layer,
-            word,
-        }
+    fn fmt<W: fmt::Write>(&self, f: &mut fmt::Formatter<W>) -> fmt::Result {
+        f.write_str(self.word())
     }
 }
 
 impl Cause {
-    fn row(self) -> Row
-        ensures { (result.number ≡ (row_of self).number) × (result.layer ≡ (row_of self).layer) × (result.word.now ≡ (row_of self).word) }
+    // What the table has for the cause: its layer and its word.
+    fn row(self) -> (Layer, &'static str)
+        ensures { (result.0 ≡ (row_of self).layer) × (result.1.now ≡ (row_of self).word) }
     {
         match self {
-            Cause::Tower => Row::new(1, Layer::Net, "tower"),
-            Cause::Unknown => Row::new(2, Layer::Net, "unknown"),
-            Cause::Key => Row::new(3, Layer::Net, "key"),
-            Cause::Phase => Row::new(4, Layer::Net, "phase"),
-            Cause::Full => Row::new(5, Layer::Net, "full"),
-            Cause::Drafts => Row::new(6, Layer::Net, "drafts"),
-            Cause::Air => Row::new(7, Layer::Net, "air"),
-            Cause::Message => Row::new(8, Layer::Net, "message"),
-            Cause::Early => Row::new(9, Layer::Net, "early"),
-            Cause::List => Row::new(10, Layer::Net, "list"),
-            Cause::Opening => Row::new(11, Layer::Net, "opening"),
-            Cause::Length => Row::new(20, Layer::Frame, "length"),
-            Cause::Kind => Row::new(21, Layer::Frame, "kind"),
-            Cause::FrameField => Row::new(22, Layer::Frame, "field"),
-            Cause::Call => Row::new(30, Layer::Script, "call"),
-            Cause::ScriptField => Row::new(31, Layer::Script, "field"),
-            Cause::Number => Row::new(32, Layer::Script, "number"),
-            Cause::Order => Row::new(33, Layer::Script, "order"),
-            Cause::Size => Row::new(34, Layer::Script, "size"),
-            Cause::Shape => Row::new(40, Layer::Book, "shape"),
-            Cause::BookKey => Row::new(41, Layer::Book, "bookkey"),
-            Cause::Index => Row::new(42, Layer::Book, "index"),
-            Cause::Depth => Row::new(43, Layer::Book, "depth"),
+            Cause::Tower => (Layer::Net, "tower"),
+            Cause::Unknown => (Layer::Net, "unknown"),
+            Cause::Key => (Layer::Net, "key"),
+            Cause::Phase => (Layer::Net, "phase"),
+            Cause::Full => (Layer::Net, "full"),
+            Cause::Drafts => (Layer::Net, "drafts"),
+            Cause::Air => (Layer::Net, "air"),
+            Cause::Message => (Layer::Net, "message"),
+            Cause::Early => (Layer::Net, "early"),
+            Cause::List => (Layer::Net, "list"),
+            Cause::Opening => (Layer::Net, "opening"),
+            Cause::Length => (Layer::Frame, "length"),
+            Cause::Kind => (Layer::Frame, "kind"),
+            Cause::FrameField => (Layer::Frame, "field"),
+            Cause::Call => (Layer::Script, "call"),
+            Cause::ScriptField => (Layer::Script, "field"),
+            Cause::Number => (Layer::Script, "number"),
+            Cause::Order => (Layer::Script, "order"),
+            Cause::Size => (Layer::Script, "size"),
+            Cause::Shape => (Layer::Book, "shape"),
+            Cause::BookKey => (Layer::Book, "bookkey"),
+            Cause::Index => (Layer::Book, "index"),
+            Cause::Depth => (Layer::Book, "depth"),
         }
     }
 
     pub fn number(self) -> u8
         ensures { result ≡ (row_of self).number }
     {
-        self.row().number
+        self as u8
     }
 
     pub fn layer(self) -> Layer
         ensures { result ≡ (row_of self).layer }
     {
-        self.row().layer
+        let (layer, _) = self.row();
+        layer
     }
 
     pub fn word(self) -> &'static str
         ensures { result.now ≡ (row_of self).word }
     {
-        self.row().word
+        let (_, word) = self.row();
+        word
+    }
+}
+
+// A cause as it is printed.
+impl fmt::Display for Cause {
+    ghost output = { λ c. Some (row_of c).word };
+
+    fn fmt<W: fmt::Write>(&self, f: &mut fmt::Formatter<W>) -> fmt::Result {
+        let (_, word) = self.row();
+        f.write_str(word)
     }
 }
 
@@ -140,6 +143,15 @@ impl Fault {
     pub fn plain(cause: Cause) -> Fault
         ensures { result ≡ plain cause }
     {
+        cause.into()
+    }
+}
+
+// A fault that has no place of its own.
+impl From<Cause> for Fault {
+    ghost from_gives = { λ c f. f ≡ plain c };
+
+    fn from(cause: Cause) -> Fault {
         Fault { cause, at: 0 }
     }
 }
@@ -149,10 +161,11 @@ impl fmt::Display for Fault {
     ghost output = { λ f. Some (fault_text f) };
 
     fn fmt<W: fmt::Write>(&self, f: &mut fmt::Formatter<W>) -> fmt::Result {
-        let layer = self.cause.layer().word();
-        let number = self.cause.number();
-        let at = self.at;
-        let word = self.cause.word();
-        write!(f, "layer={layer} fault={number} at={at} word={word}")
+        let Fault { cause, at } = self;
+        let layer = cause.layer();
+        let number = cause.number();
+        write!(f, "layer={layer} fault={number} at={at} word={cause}")
     }
 }
+
+impl Error for Fault {}

@@ -1,14 +1,12 @@
-use Rattle.std.proofs.Common.{true, false, inl, inr, arith}
+use Rattle.std.proofs.Common.{rules, true, false, inl, inr, arith}
 use Rattle.std.proofs.lemmas.Bool.{cases_lt}
 use Rattle.std.proofs.lemmas.List.{get_or_past}
 use Rattle.clocks.specs.Clocks.{Covers}
 use Rattle.clocks.proofs.Covering.{covers-value}
 use Rattle.clocks.proofs.covers.Goals as goal
 
-pub returns-then-entry-least : goal.returns-then-entry-least
-returns-then-entry-least c =
-    let smaller : Covers c.args.clock.now c.args.bound.now → ⊥ = λ h. omega (arith, h c.loop-i.i, c.entry.ensures) in
-    record { rule = smaller; value = covers-value false _ _ smaller }
+pub returns-then-unwrap_or-least-clause-value : goal.returns-then-unwrap_or-least-clause-value
+returns-then-unwrap_or-least-clause-value c = covers-value false c.args.clock.now c.args.bound.now (search rules)
 
 pub returns : goal.returns
 returns c =
