@@ -1,5 +1,5 @@
 -- Whatever is called in a net that a run has reached, there is something to tell. Assumes nothing.
-use Rattle.std.proofs.Common.{◌≡◌, ℕ, zero, suc, ◌<◌, ◌≤◌, Bool, true, false, ltb, leb, List, [], ◌∷◌, length, Some, None, Option, sym, refl, subst, inl, inr, arith}
+use Rattle.std.proofs.Common.{◌≡◌, ℕ, zero, suc, ◌<◌, ◌≤◌, Bool, true, false, ltb, leb, List, [], ◌∷◌, length, Some, None, Ok, Option, Result, sym, refl, subst, inl, inr, arith}
 use Rattle.std.specs.List.{slice_get}
 use Rattle.std.proofs.lemmas.Bool.{eqb-true, ltb-true, leb-true, cases_eq, cases_lt, and_parts}
 use Rattle.faults.specs.declared.Cause.{Cause}
@@ -129,6 +129,6 @@ module _ (net : Net) (h : List Event) (v : Visible) (run : Run net h v) where
 pub every_call_answered : Always EveryCallAnswered
 every_call_answered net h v run c = go (first_fault net v c) refl
   where
-    go : (o : Option Cause) → first_fault net v c ≡ o → (a : Told) × (v' : Visible) × Step net v v' c a
+    go : (o : Option Cause) → first_fault net v c ≡ o → (a : Result Told Cause) × (v' : Visible) × Step net v v' c a
     go (Some f) e = (_, v, fails f e refl)
-    go None e = let r = obeyed net h v run c e in (r.0, r.1, obeys e r.2)
+    go None e = let r = obeyed net h v run c e in (Ok r.0, r.1, obeys e r.2)

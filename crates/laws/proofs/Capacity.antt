@@ -1,10 +1,11 @@
 -- The tables suffice: checks turn down what they have no place for. Assumes nothing.
-use Rattle.std.proofs.Common.{◌≡◌, ℕ, zero, suc, ◌+◌, ◌≤◌, ltb, ◌≢◌, List, [], ◌∷◌, ◌++◌, length, Some, None, Option, sym, refl, ap, subst, arith, length-append}
+use Rattle.std.proofs.Common.{◌≡◌, ℕ, zero, suc, ◌+◌, ◌≤◌, ltb, ◌≢◌, List, [], ◌∷◌, ◌++◌, length, Some, None, Option, Result, sym, refl, ap, subst, arith, length-append}
 use Rattle.std.specs.List.{slice_get}
 use Rattle.std.proofs.lemmas.Bool.{eq-eqb, ltb-true, leb-true}
 use Rattle.messages.specs.declared.Draft.{Draft}
 use Rattle.messages.specs.declared.Objection.{Objection}
 use Rattle.tables.specs.declared.Call.{Call}
+use Rattle.faults.specs.declared.Cause.{Cause}
 use Rattle.tables.specs.declared.Told.{Told}
 use Rattle.laws.specs.Lists.{At, without, either}
 use Rattle.laws.specs.Net.{Body, answer, vote, Message, Net, writer_of}
@@ -78,6 +79,6 @@ pub within_capacity : Always WithinCapacity
 within_capacity net _ _ start = record { begun = omega arith; air = omega arith; readings = omega arith }
 within_capacity net _ _ (then {h = h} {v = v} r x) = go (within_capacity net h v r) x
   where
-    go : {v v' : Visible} {c : Call} {a : Told} {h k : List Event} → WithinCapacity net h v → Step net v v' c a → WithinCapacity net k v'
+    go : {v v' : Visible} {c : Call} {a : Result Told Cause} {h k : List Event} → WithinCapacity net h v → Step net v v' c a → WithinCapacity net k v'
     go {v = v} {k = k} g (fails f q e) = subst (WithinCapacity net k) (sym e) (record { begun = g.begun; air = g.air; readings = g.readings })
     go {v = v} {k = k} g (obeys n y) = rule_capacity net v k n (record { begun = g.begun; air = g.air; readings = g.readings }) y

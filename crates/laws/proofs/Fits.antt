@@ -1,9 +1,10 @@
 -- Whatever the net holds or sends is in range. Assumes nothing.
-use Rattle.std.proofs.Common.{◌≡◌, ℕ, zero, suc, pred, ◌<◌, ◌≤◌, Bool, true, false, cond, not, ◌&&◌, eqb, ◌≢◌, ◌⊎◌, List, [], ◌∷◌, ◌++◌, length, Some, None, Option, sym, refl, subst, inl, inr, arith}
+use Rattle.std.proofs.Common.{◌≡◌, ℕ, zero, suc, pred, ◌<◌, ◌≤◌, Bool, true, false, cond, not, ◌&&◌, eqb, ◌≢◌, ◌⊎◌, List, [], ◌∷◌, ◌++◌, length, Some, None, Option, Result, sym, refl, subst, inl, inr, arith}
 use Rattle.clocks.specs.declared.Version.{Version}
 use Rattle.messages.specs.declared.Draft.{Draft}
 use Rattle.tables.specs.declared.Call.{Call}
 use Rattle.tables.specs.declared.Call.TheVariants.{Begin, Read, Draft as DraftCall, Close, Drop as DropCall, Deliver}
+use Rattle.faults.specs.declared.Cause.{Cause}
 use Rattle.tables.specs.declared.Told.{Told}
 use Rattle.tables.specs.declared.Phase.TheVariants.{Open, Waiting, Closing, Granted, Refused, Dropped}
 use Rattle.messages.specs.declared.Objection.{Objection}
@@ -355,7 +356,7 @@ module _ (net : Net) (ok : Content → Bool) where
       })
   rule_fits {v} op sm y g (releases p m a b e) = subst (InRange net ok) (sym e) (record { begun = g.begun; clocks = g.clocks; records = g.records; book = g.book; held = tray_freed m.tx m.to v.held g.held; air = mail_landed v.air p g.air })
 
-  step_fits : {v v' : Visible} {c : Call} {a : Told} → ((i : ℕ) → (v.records i).phase ≢ Dropped → i < v.begun) → ((t j : ℕ) → v'.clocks t j ≤ v'.begun) → CallOk ok c → InRange net ok v → Step net v v' c a → InRange net ok v'
+  step_fits : {v v' : Visible} {c : Call} {a : Result Told Cause} → ((i : ℕ) → (v.records i).phase ≢ Dropped → i < v.begun) → ((t j : ℕ) → v'.clocks t j ≤ v'.begun) → CallOk ok c → InRange net ok v → Step net v v' c a → InRange net ok v'
   step_fits op sm y g (fails f _ e) = subst (InRange net ok) (sym e) g
   step_fits op sm y g (obeys _ x) = rule_fits op sm y g x
 

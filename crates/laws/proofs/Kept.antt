@@ -293,7 +293,7 @@ rule_kept net {s} v r g (releases p m a b e) = subst (λ (w : Visible). Kept net
 
 pub run_kept : (net : Net) {h : List Event} {s : State} → Logged net h s → Kept net s
 run_kept net start = record { once = λ k. omega arith; lone = λ i t. omega arith; unheld = λ m ls k h. absurd h; won = λ i c. absurd (differ Dropped Granted refl refl c) }
-run_kept net (then {s = s} r x) = by_step net (Kept net) s (run_kept net r) (rule_kept net (run_holds net r) (run_more net r) (run_kept net r)) x
+run_kept net (then {s = s} r x) = by_step net (Kept net) s (run_kept net r) (λ _. rule_kept net (run_holds net r) (run_more net r) (run_kept net r)) x
 
 -- ## The laws
 

@@ -1,7 +1,8 @@
 -- A visible state with a log of what was placed and shown, and the log of a run. Assumes nothing.
-use Rattle.std.proofs.Common.{◌≡◌, ℕ, List, [], ◌∷◌, Option, sym, refl, subst}
+use Rattle.std.proofs.Common.{◌≡◌, ℕ, List, [], ◌∷◌, Option, Result, sym, refl, subst}
 use Rattle.clocks.specs.declared.Version.{Version}
 use Rattle.tables.specs.declared.Call.{Call}
+use Rattle.faults.specs.declared.Cause.{Cause}
 use Rattle.tables.specs.declared.Told.{Told}
 use Rattle.laws.specs.Net.{Placement, Net}
 use Rattle.laws.specs.Words.{Event}
@@ -49,7 +50,7 @@ next net s {v' = w} (refuses p m n x r b l q e) = on s w
 next net s {v' = w} (takes_in p m n ls r b l e) = on s w
 next net s {v' = w} (releases p m x b e) = on s w
 
-abbrev pub after-step : (net : Net) (s : State) {v' : Visible} {c : Call} {a : Told} → Step net s.vis v' c a → State
+abbrev pub after-step : (net : Net) (s : State) {v' : Visible} {c : Call} {a : Result Told Cause} → Step net s.vis v' c a → State
 after-step net s {v' = w} (fails f q e) = on s w
 after-step net s (obeys q x) = next net s x
 
@@ -58,12 +59,12 @@ first = record { vis = new; placed = []; readings = [] }
 
 pub data Logged (net : Net) : List Event → State → Type 0 where
   start : Logged net [] first
-  then : {h : List Event} {s : State} {v' : Visible} {c : Call} {a : Told} → Logged net h s → (x : Step net s.vis v' c a) → Logged net (record { call = c; told = a } ∷ h) (after-step net s x)
+  then : {h : List Event} {s : State} {v' : Visible} {c : Call} {a : Result Told Cause} → Logged net h s → (x : Step net s.vis v' c a) → Logged net (record { call = c; told = a } ∷ h) (after-step net s x)
 
 -- what every rule keeps, a step keeps
-pub by_step : (net : Net) (Q : State → Type 0) (s : State) {v' : Visible} {c : Call} {a : Told} → Q s → ((x : Rule net s.vis v' c a) → Q (next net s x)) → (x : Step net s.vis v' c a) → Q (after-step net s x)
+pub by_step : (net : Net) (Q : State → Type 0) (s : State) {v' : Visible} {c : Call} {a : Result Told Cause} → Q s → ((b : Told) (x : Rule net s.vis v' c b) → Q (next net s x)) → (x : Step net s.vis v' c a) → Q (after-step net s x)
 by_step net Q s q f (fails _ _ e) = subst (λ (w : Visible). Q (on s w)) (sym e) q
-by_step net Q s q f (obeys _ x) = f x
+by_step net Q s q f (obeys _ x) = f _ x
 
 -- every run has its log
 pub log_of : (net : Net) {h : List Event} {v : Visible} → rules.Run net h v → (s : State) × Logged net h s × (s.vis ≡ v)
@@ -91,6 +92,6 @@ log_of net (rules.then {v = v} {v' = v'} {c = c} {a = a} r x) =
     vis_next net s (takes_in _ _ _ _ _ _ _ _) = refl
     vis_next net s (releases _ _ _ _ _) = refl
 
-    vis_after : (net : Net) (s : State) {v' : Visible} {c : Call} {a : Told} (x : Step net s.vis v' c a) → (after-step net s x).vis ≡ v'
+    vis_after : (net : Net) (s : State) {v' : Visible} {c : Call} {a : Result Told Cause} (x : Step net s.vis v' c a) → (after-step net s x).vis ≡ v'
     vis_after net s (fails f q e) = refl
     vis_after net s (obeys q x) = vis_next net s x

@@ -370,4 +370,4 @@ run_more net start = record {
   growing = λ m k v h. absurd h;
   owed = record { lone = λ i t. omega arith; unseen = λ E t h. absurd h; balance = λ t o l. refl };
 }
-run_more net (then {s = s} r x) = by_step net (More net) s (run_more net r) (rule_more net (run_holds net r) (run_more net r)) x
+run_more net (then {s = s} r x) = by_step net (More net) s (run_more net r) (λ _. rule_more net (run_holds net r) (run_more net r)) x

@@ -59,4 +59,4 @@ rule_places net {s} v l g (releases p m x b e) = subst (λ (w : Visible). Places
 
 pub run-places : (net : Net) {h : List Event} {s : State} → Logged net h s → Places s
 run-places net start = record { place = λ i. refl; number = λ i _. refl }
-run-places net (then {s = s} r x) = by_step net Places s (run-places net r) (rule_places net (run_holds net r) (run_linked net r) (run-places net r)) x
+run-places net (then {s = s} r x) = by_step net Places s (run-places net r) (λ _. rule_places net (run_holds net r) (run_linked net r) (run-places net r)) x

@@ -108,7 +108,7 @@ rule_ranges net {s} g (releases p m a b e) = subst (λ (w : Visible). Ranges net
 
 pub run_ranges : (net : Net) {h : List Event} {s : State} → Logged net h s → Ranges net s
 run_ranges net start = record { origins = λ i. omega (arith, net.housed 0); mail = λ m h. absurd h }
-run_ranges net (then {s = s} r x) = by_step net (Ranges net) s (run_ranges net r) (rule_ranges net (run_ranges net r)) x
+run_ranges net (then {s = s} r x) = by_step net (Ranges net) s (run_ranges net r) (λ _. rule_ranges net (run_ranges net r)) x
 
 -- ## The transactions of messages
 

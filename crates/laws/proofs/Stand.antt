@@ -84,11 +84,11 @@ new_holds net = record {
 
 pub run_holds : (net : Net) {h : List Event} {s : State} → Logged net h s → Invariant net s
 run_holds net start = new_holds net
-run_holds net (then {s = s} r x) = by_step net (Invariant net) s (run_holds net r) (rule_keeps net (run_holds net r)) x
+run_holds net (then {s = s} r x) = by_step net (Invariant net) s (run_holds net r) (λ _. rule_keeps net (run_holds net r)) x
 
 pub run_origins : (net : Net) {h : List Event} {s : State} → Logged net h s → OriginsOf s
 run_origins net start = record { held = λ h q. absurd q; voted = λ m a q. absurd q; named = λ i a q. absurd (none-some refl q) }
-run_origins net (then {s = s} r x) = by_step net OriginsOf s (run_origins net r) (rule_origins net s (run_holds net r) (run_origins net r)) x
+run_origins net (then {s = s} r x) = by_step net OriginsOf s (run_origins net r) (λ _. rule_origins net s (run_holds net r) (run_origins net r)) x
 
 -- ## The facts
 

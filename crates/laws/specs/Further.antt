@@ -1,9 +1,10 @@
 -- Further laws, each by its name.
-use Rattle.std.specs.Prelude.{◌≡◌, ℕ, ◌+◌, ◌<◌, ◌≤◌, true, ◌≢◌, ◌⊎◌, List, [], ◌∷◌, length, None, Option, nat_eq}
+use Rattle.std.specs.Prelude.{◌≡◌, ℕ, ◌+◌, ◌<◌, ◌≤◌, true, ◌≢◌, ◌⊎◌, List, [], ◌∷◌, length, None, Option, Result, nat_eq}
 use Rattle.clocks.specs.declared.Version.{Version}
 use Rattle.messages.specs.declared.Draft.{Draft}
 use Rattle.messages.specs.declared.Objection.{Objection}
 use Rattle.tables.specs.declared.Call.{Call}
+use Rattle.faults.specs.declared.Cause.{Cause}
 use Rattle.tables.specs.declared.Told.{Told}
 use Rattle.tables.specs.declared.Phase.{Phase}
 use Rattle.tables.specs.declared.Phase.TheVariants.{Waiting, Closing, Granted, Refused}
@@ -81,15 +82,15 @@ MessagesAtHome net h v = (m : Message) → In m v.air → AtHome net h v m
 
 -- whatever is called, there is something to tell
 abbrev pub EveryCallAnswered : Net → List Event → Visible → Type 0
-EveryCallAnswered net h v = (c : Call) → (a : Told) × (v' : Visible) × Step net v v' c a
+EveryCallAnswered net h v = (c : Call) → (a : Result Told Cause) × (v' : Visible) × Step net v v' c a
 
 -- a call tells one thing, and does one thing
-pub record SameAnswer (a b : Told) (v w : Visible) : Type 0 where
+pub record SameAnswer (a b : Result Told Cause) (v w : Visible) : Type 0 where
   pub told : a ≡ b
   pub state : v ≡ w
 
 abbrev pub AnswersDetermined : Type 0
-AnswersDetermined = (net : Net) (v v' v'' : Visible) (c : Call) (a b : Told) → Step net v v' c a → Step net v v'' c b → SameAnswer a b v' v''
+AnswersDetermined = (net : Net) (v v' v'' : Visible) (c : Call) (a b : Result Told Cause) → Step net v v' c a → Step net v v'' c b → SameAnswer a b v' v''
 
 -- checks turn down what the tables have no place for
 pub record WithinCapacity (net : Net) (h : List Event) (v : Visible) : Type 0 where

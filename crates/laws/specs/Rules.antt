@@ -1,5 +1,5 @@
 -- What each call does to what the towers, the tables and the air hold.
-use Rattle.std.specs.Prelude.{◌≡◌, ℕ, suc, pred, ◌<◌, ◌≤◌, Bool, cond, not, ◌≢◌, List, [], ◌∷◌, ◌++◌, length, Some, None, Option}
+use Rattle.std.specs.Prelude.{◌≡◌, ℕ, suc, pred, ◌<◌, ◌≤◌, Bool, cond, not, ◌≢◌, List, [], ◌∷◌, ◌++◌, length, Some, None, Ok, Err, Option, Result}
 use Rattle.laws.specs.Lists.{put, At, either}
 use Rattle.laws.specs.Net.{Clock, query, answer, prepare, vote, granted, refused, Message, Net, ◌⊑◌, newest_within, content_of, writer_of}
 use Rattle.laws.specs.State.{Visible, amended, sent, removed, holding, took_in, read, placing, new, granted_record, placement}
@@ -15,7 +15,7 @@ use Rattle.tables.specs.declared.Phase.TheVariants.{Open, Waiting, Closing, Gran
 use Rattle.tables.specs.declared.Call.{Call}
 use Rattle.tables.specs.declared.Call.TheVariants.{Begin, Read, Draft as DraftCall, Close, Drop as DropCall, Deliver}
 use Rattle.tables.specs.declared.Told.{Told}
-use Rattle.tables.specs.declared.Told.TheVariants.{Begun, Own, Sent, Drafts, ReadOnly, Dropped as ToldDropped, Queried, Shown, Prepared, Awaiting, Placed, Refused as ToldRefused, Ended, Fault}
+use Rattle.tables.specs.declared.Told.TheVariants.{Begun, Own, Sent, Drafts, ReadOnly, Dropped as ToldDropped, Queried, Shown, Prepared, Awaiting, Placed, Refused as ToldRefused, Ended}
 
 module _ (net : Net) where
   -- ## The calls
@@ -127,11 +127,11 @@ module _ (net : Net) where
 
   -- ## A call is turned down, and nothing changes, or it is obeyed
 
-  pub data Step (v v' : Visible) (c : Call) : Told → Type 0 where
-    fails : (f : Cause) → first_fault net v c ≡ Some f → v' ≡ v → Step v v' c (Fault f)
-    obeys : {a : Told} → first_fault net v c ≡ None → Rule v v' c a → Step v v' c a
+  pub data Step (v v' : Visible) (c : Call) : Result Told Cause → Type 0 where
+    fails : (f : Cause) → first_fault net v c ≡ Some f → v' ≡ v → Step v v' c (Err f)
+    obeys : {a : Told} → first_fault net v c ≡ None → Rule v v' c a → Step v v' c (Ok a)
 
 -- the net after the calls of a history
 pub data Run (net : Net) : List Event → Visible → Type 0 where
   start : Run net [] new
-  then : {h : List Event} {v v' : Visible} {c : Call} {a : Told} → Run net h v → Step net v v' c a → Run net (record { call = c; told = a } ∷ h) v'
+  then : {h : List Event} {v v' : Visible} {c : Call} {a : Result Told Cause} → Run net h v → Step net v v' c a → Run net (record { call = c; told = a } ∷ h) v'

@@ -1,5 +1,5 @@
 -- Records and messages, as the calls change and send them.
-use Rattle.std.specs.Prelude.{ℕ, zero, suc, Bool, true, false, cond, not, ◌&&◌, List, [], ◌∷◌, ◌++◌, length, Some, None, Option, ◌==◌, nat_eq}
+use Rattle.std.specs.Prelude.{ℕ, zero, suc, Bool, true, false, cond, not, ◌&&◌, List, [], ◌∷◌, ◌++◌, length, Some, None, Option, Result, ◌==◌, nat_eq}
 use Rattle.laws.specs.Lists.{those, either, first_of}
 use Rattle.laws.specs.Net.{Clock, Record, Body, prepare, granted, refused, Message, Placement, Net, inside, newest}
 use Rattle.clocks.specs.declared.Content.{Content}
@@ -12,6 +12,7 @@ use Rattle.tables.specs.declared.Held.{Held}
 use Rattle.tables.specs.declared.Phase.{Phase}
 use Rattle.tables.specs.declared.Phase.TheVariants.{Open, Dropped}
 use Rattle.tables.specs.declared.Call.{Call}
+use Rattle.faults.specs.declared.Cause.{Cause}
 use Rattle.tables.specs.declared.Told.{Told}
 
 -- ## A record, changed at one place
@@ -128,4 +129,4 @@ module _ (net : Net) where
 -- a history: each call with what it told, the newest first
 pub record Event : Type 0 where
   pub call : Call
-  pub told : Told
+  pub told : Result Told Cause
