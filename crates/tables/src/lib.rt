@@ -78,10 +78,10 @@ pub enum Told {
         key: u8,
         content: Option<Content>,
     },
-    // a prepare was delivered; the mark of the vote that was sent: 0 for yes, else the conflict's. A number, as it stands in the frame
-    // and in the listing.
+    // a prepare was delivered, and a vote was sent
     Prepared {
         tx: u16,
+        // 0 for yes, else the conflict's mark: a number of the format, told as it stands in the frame and in the listing
         mark: u8,
     },
     // a vote was delivered, and others are awaited
