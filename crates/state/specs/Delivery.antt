@@ -145,7 +145,7 @@ abbrev pub own_count : State → Record → ℕ
 own_count s r = slice_index (tower_at s.net r.origin).clock.entries r.origin
 
 abbrev pub granted_record : ℕ → ℕ → Record → Record
-granted_record number place r = record { origin = r.origin; phase = Granted; bound = r.bound; answered = r.answered; drafts = r.drafts; awaited = 0; named = None; number = number; place = place }
+granted_record number place r = record { origin = r.origin; phase = Granted; bound = r.bound; answered = r.answered; drafts = r.drafts; awaited = 0; named = None; number = Some number; place = Some place }
 
 abbrev pub granted_state : State → ℕ → ℕ → Record → ℕ → List Frame → State
 granted_state s at tx r number fs = record {
