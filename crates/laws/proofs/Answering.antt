@@ -1,5 +1,6 @@
 -- Whatever is called in a net that a run has reached, there is something to tell. Assumes nothing.
 use Rattle.std.proofs.Common.{◌≡◌, ℕ, zero, suc, ◌<◌, ◌≤◌, Bool, true, false, ltb, leb, List, [], ◌∷◌, length, Some, None, Ok, Option, Result, sym, refl, subst, inl, inr, arith}
+use Rattle.std.specs.Option.{option_or}
 use Rattle.std.specs.List.{slice_get}
 use Rattle.std.proofs.lemmas.Bool.{eqb-true, ltb-true, leb-true, cases_eq, cases_lt, and_parts}
 use Rattle.faults.specs.declared.Cause.{Cause}
@@ -10,7 +11,7 @@ use Rattle.tables.specs.declared.Phase.TheVariants.{Open, Waiting, Closing, Gran
 use Rattle.tables.specs.declared.Call.{Call}
 use Rattle.tables.specs.declared.Call.TheVariants.{Begin, Read, Draft as DraftCall, Close, Drop as DropCall, Deliver}
 use Rattle.tables.specs.declared.Told.{Told}
-use Rattle.laws.specs.Lists.{At, either}
+use Rattle.laws.specs.Lists.{At}
 use Rattle.laws.specs.Net.{Clock, Body, query, answer, prepare, vote, granted, refused, Message, Net}
 use Rattle.laws.specs.Words.{draft_of, redrafted, Event}
 use Rattle.laws.specs.State.{Visible}
@@ -83,7 +84,7 @@ module _ (net : Net) (h : List Event) (v : Visible) (run : Run net h v) where
   prepared p m lines e r None q = (_, _, agrees p m lines r e q refl)
   prepared p m lines e r (Some x) q = (_, _, objects p m lines x r e q refl)
 
-  decided : (p : ℕ) (m : Message) (named : Option Objection) → m.body ≡ vote named → Ripe net v p m → (v.records m.tx).awaited ≡ 1 → (o : Option Objection) → either (v.records m.tx).named named ≡ o → Ruled (Deliver p)
+  decided : (p : ℕ) (m : Message) (named : Option Objection) → m.body ≡ vote named → Ripe net v p m → (v.records m.tx).awaited ≡ 1 → (o : Option Objection) → option_or (v.records m.tx).named named ≡ o → Ruled (Deliver p)
   decided p m named e r one None q = (_, _, grants p m named r e one q refl)
   decided p m named e r one (Some x) q = (_, _, refuses p m named x r e one q refl)
 
@@ -92,7 +93,7 @@ module _ (net : Net) (h : List Event) (v : Visible) (run : Run net h v) where
       let x = (messages_at_home net h v run m (in_at v.air p m r.there)).phase in
       let w = (closing_awaits net h v run m.tx (rw e at x)).some in
       elim (cases_eq (v.records m.tx).awaited 1) [
-        | inl one ↦ decided p m named e r one (either (v.records m.tx).named named) refl
+        | inl one ↦ decided p m named e r one (option_or (v.records m.tx).named named) refl
         | inr more ↦ (_, _, counts p m named r e (omega (arith, w, more)) refl)
       ]
 

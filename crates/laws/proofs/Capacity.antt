@@ -1,5 +1,6 @@
 -- The tables suffice: checks turn down what they have no place for. Assumes nothing.
 use Rattle.std.proofs.Common.{◌≡◌, ℕ, zero, suc, ◌+◌, ◌≤◌, ltb, ◌≢◌, List, [], ◌∷◌, ◌++◌, length, Some, None, Option, Result, sym, refl, ap, subst, arith, length-append}
+use Rattle.std.specs.Option.{option_or}
 use Rattle.std.specs.List.{slice_get}
 use Rattle.std.proofs.lemmas.Bool.{eq-eqb, ltb-true, leb-true}
 use Rattle.messages.specs.declared.Draft.{Draft}
@@ -7,7 +8,7 @@ use Rattle.messages.specs.declared.Objection.{Objection}
 use Rattle.tables.specs.declared.Call.{Call}
 use Rattle.faults.specs.declared.Cause.{Cause}
 use Rattle.tables.specs.declared.Told.{Told}
-use Rattle.laws.specs.Lists.{At, without, either}
+use Rattle.laws.specs.Lists.{At, without}
 use Rattle.laws.specs.Net.{Body, answer, vote, Message, Net, writer_of}
 use Rattle.laws.specs.Words.{prepares, Event}
 use Rattle.laws.specs.State.{Visible}
@@ -42,11 +43,11 @@ module _ (net : Net) (v : Visible) where
       let f : message_fault net v p (Some m) ≡ None = subst (λ (o : Option Message). message_fault net v p o ≡ None) (at_nth v.air p m a) n in
       subst (λ (x : Body). delivery_fault net v p m x ≡ None) e (passes (ripe net.entries (v.clocks m.to) m) _ _ f).1
 
-  decided : (p : ℕ) (m : Message) (named o : Option Objection) → At v.air p m → m.body ≡ vote named → (v.records m.tx).awaited ≡ 1 → either (v.records m.tx).named named ≡ o → message_fault net v p (slice_get v.air p) ≡ None →
+  decided : (p : ℕ) (m : Message) (named o : Option Objection) → At v.air p m → m.body ≡ vote named → (v.records m.tx).awaited ≡ 1 → option_or (v.records m.tx).named named ≡ o → message_fault net v p (slice_get v.air p) ≡ None →
       length (without v.air p) + length (outcomes_of net v m.tx o) ≤ net.air_places
   decided p m named o a e one q n =
       let f = delivery p m (vote named) a e n in
-      let g : unless_room net v (room net v (length (outcomes_of net v m.tx (either (v.records m.tx).named named))) (without v.air p)) ≡ None = rw (eq-eqb _ _ one) at f in
+      let g : unless_room net v (room net v (length (outcomes_of net v m.tx (option_or (v.records m.tx).named named))) (without v.air p)) ≡ None = rw (eq-eqb _ _ one) at f in
       subst (λ (x : Option Objection). length (without v.air p) + length (outcomes_of net v m.tx x) ≤ net.air_places) q (has_room _ _ g)
 
   closing : (i : ℕ) (ds : List Draft) → ds ≢ [] → close_fault net v i ds ≡ None → length v.air + length (prepares net i (v.records i) net.towers) ≤ net.air_places

@@ -1,5 +1,6 @@
 -- A call tells one thing and does one thing. Assumes nothing.
 use Rattle.std.proofs.Common.{◌≡◌, ℕ, zero, suc, Bool, true, false, eqb, ◌≢◌, List, [], ◌∷◌, ◌++◌, length, Some, None, Ok, Err, Option, Result, sym, refl, ap, ◌∙◌, subst, arith}
+use Rattle.std.specs.Option.{option_or}
 use Rattle.std.specs.List.{slice_get}
 use Rattle.std.proofs.lemmas.Bool.{eq-eqb, ne_eqb}
 use Rattle.faults.specs.declared.Cause.{Cause}
@@ -11,7 +12,7 @@ use Rattle.tables.specs.declared.Call.{Call}
 use Rattle.tables.specs.declared.Call.TheVariants.{Begin, Read, Draft as DraftCall, Close, Drop as DropCall, Deliver}
 use Rattle.tables.specs.declared.Told.{Told}
 use Rattle.tables.specs.declared.Told.TheVariants.{Begun, Own, Sent, Drafts, ReadOnly, Dropped as ToldDropped, Queried, Shown, Prepared, Awaiting, Placed, Refused as ToldRefused, Ended}
-use Rattle.laws.specs.Lists.{At, either}
+use Rattle.laws.specs.Lists.{At}
 use Rattle.laws.specs.Net.{Body, query, answer, prepare, vote, granted, refused, Message, Net, content_of}
 use Rattle.laws.specs.Words.{draft_of, in_phase, drafting, voting, redrafted, holds_of, prepares, Event}
 use Rattle.laws.specs.State.{Visible, amended, holding}
@@ -56,7 +57,7 @@ module _ (net : Net) (v : Visible) where
   of_body p m (query k first) = effect (Queried m.tx) (replied net v p m k first)
   of_body p m (answer k shown) = effect (Shown m.tx k (content_of shown)) (received net v p m k shown)
   of_body p m (prepare lines) = of_prepare p m lines (objection net v m lines)
-  of_body p m (vote named) = of_vote p m named (eqb (v.records m.tx).awaited 1) (either (v.records m.tx).named named)
+  of_body p m (vote named) = of_vote p m named (eqb (v.records m.tx).awaited 1) (option_or (v.records m.tx).named named)
   of_body p m (granted n lines) = effect (Ended m.tx m.to) (took net v p m n lines)
   of_body p m refused = effect (Ended m.tx m.to) (released net v p m)
 
@@ -80,8 +81,8 @@ module _ (net : Net) (v : Visible) where
   empty_close i [] n = absurd (n refl)
   empty_close i (d ∷ ds) n = refl
 
-  vote_is : (p : ℕ) (m : Message) (named o : Option Objection) (b : Bool) → eqb (v.records m.tx).awaited 1 ≡ b → either (v.records m.tx).named named ≡ o → of_body p m (vote named) ≡ of_vote p m named b o
-  vote_is p m named o b e f = ap (λ (x : Bool). of_vote p m named x (either (v.records m.tx).named named)) e ∙ ap (of_vote p m named b) f
+  vote_is : (p : ℕ) (m : Message) (named o : Option Objection) (b : Bool) → eqb (v.records m.tx).awaited 1 ≡ b → option_or (v.records m.tx).named named ≡ o → of_body p m (vote named) ≡ of_vote p m named b o
+  vote_is p m named o b e f = ap (λ (x : Bool). of_vote p m named x (option_or (v.records m.tx).named named)) e ∙ ap (of_vote p m named b) f
 
   rule_effect : {v' : Visible} {c : Call} {a : Told} → Rule net v v' c a → effect a v' ≡ of_call c
   rule_effect (begins t l n e) = ap (effect _) e

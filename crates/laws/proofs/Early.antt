@@ -1,11 +1,12 @@
 -- What its own tower had placed before a transaction began is within its bound. Assumes nothing.
 use Rattle.std.proofs.Common.{◌≡◌, ℕ, suc, pred, ◌<◌, ◌≤◌, cond, eqb, ◌⊎◌, List, [], ◌∷◌, length, Some, None, Ok, Result, sym, refl, ap, ◌∙◌, subst, inl, inr, arith}
+use Rattle.std.specs.Option.{option_or}
 use Rattle.std.proofs.lemmas.Bool.{eq-eqb, ne_eqb, eqb-true, cases_eq, cases_Bool}
 use Rattle.tables.specs.declared.Call.{Call}
 use Rattle.faults.specs.declared.Cause.{Cause}
 use Rattle.tables.specs.declared.Told.{Told}
 use Rattle.tables.specs.declared.Phase.TheVariants.{Waiting, Closing, Granted, Refused, Dropped}
-use Rattle.laws.specs.Lists.{put, In, either}
+use Rattle.laws.specs.Lists.{put, In}
 use Rattle.laws.specs.Net.{Record, Placement, Net, ◌⊑◌, is_ballot}
 use Rattle.laws.proofs.Log.{Seen}
 use Rattle.laws.proofs.Model.{Logged, State, after-step, next, noting, on, placing, start, then}
@@ -88,7 +89,7 @@ early_rule net {s} {c = call} {a = told} h v g l x (receives p m k shown a b e) 
 early_rule net {s} {c = call} {a = told} h v g l x (agrees p m lines r b n e) = subst (λ (w : Visible). EarlyIn (after call (Ok told) h) (on s w)) (sym e) x
 early_rule net {s} {c = call} {a = told} h v g l x (objects p m lines k r b y e) = subst (λ (w : Visible). EarlyIn (after call (Ok told) h) (on s w)) (sym e) x
 early_rule net {s} {c = call} {a = told} h v g l x (counts p m named r b q e) = subst (λ (w : Visible). EarlyIn (after call (Ok told) h) (on s w)) (sym e)
-    (early_put h s.vis.begun s.placed s.vis.records m.tx (voting Closing (pred (s.vis.records m.tx).awaited) (either (s.vis.records m.tx).named named) (s.vis.records m.tx)) (same s.vis.records m.tx) x)
+    (early_put h s.vis.begun s.placed s.vis.records m.tx (voting Closing (pred (s.vis.records m.tx).awaited) (option_or (s.vis.records m.tx).named named) (s.vis.records m.tx)) (same s.vis.records m.tx) x)
 early_rule net {s} {c = call} {a = told} h v g l x (grants p m named r b one q e) = subst (λ (w : Visible). EarlyIn (after call (Ok told) h) (placing s (placement s.vis m.tx) w)) (sym e) (
     let o = (s.vis.records m.tx).origin in
     let w = granted_record s.vis m.tx in

@@ -1,5 +1,6 @@
 -- Whatever the net holds or sends is in range. Assumes nothing.
-use Rattle.std.proofs.Common.{◌≡◌, ℕ, zero, suc, pred, ◌<◌, ◌≤◌, Bool, true, false, cond, not, ◌&&◌, eqb, ◌≢◌, ◌⊎◌, List, [], ◌∷◌, ◌++◌, length, Some, None, Option, Result, sym, refl, subst, inl, inr, arith}
+use Rattle.std.proofs.Common.{◌≡◌, ℕ, zero, suc, pred, ◌<◌, ◌≤◌, Bool, true, false, cond, not, ◌&&◌, eqb, ◌≢◌, ◌⊎◌, List, [], ◌∷◌, ◌++◌, length, Some, None, filter, find, Option, Result, sym, refl, subst, inl, inr, arith}
+use Rattle.std.specs.Option.{option_or}
 use Rattle.clocks.specs.declared.Version.{Version}
 use Rattle.messages.specs.declared.Draft.{Draft}
 use Rattle.tables.specs.declared.Call.{Call}
@@ -9,18 +10,18 @@ use Rattle.tables.specs.declared.Told.{Told}
 use Rattle.tables.specs.declared.Phase.TheVariants.{Open, Waiting, Closing, Granted, Refused, Dropped}
 use Rattle.messages.specs.declared.Objection.{Objection}
 use Rattle.clocks.specs.declared.Content.{Content}
-use Rattle.laws.proofs.Conflicts.{none-some, either_cases, first_is, lines-found}
+use Rattle.laws.proofs.Conflicts.{none-some, option_or_cases, first_is, lines-found}
 use Rattle.messages.specs.declared.Conflict.{Conflict}
 use Rattle.messages.specs.declared.Conflict.TheVariants.{Held as HeldBy, Newer, Full}
 use Rattle.tables.specs.declared.Held.{Held}
-use Rattle.laws.specs.Lists.{put, In, At, without, those, either, first_of}
+use Rattle.laws.specs.Lists.{put, In, At, without}
 use Rattle.laws.specs.Net.{Clock, Record, Body, query, answer, prepare, vote, granted, Message, Placement, Net, Drafted, written, inside, newest_within, newest}
 use Rattle.laws.specs.Words.{opened, in_phase, drafting, reading_at, voting, placed_as, message, redrafted, unless_none, homed, prepare_to, granted_to, refused_to, prepares, grants_to, refusals_to, Event, holds_of, freed, another_holds, held_conflict, newer_conflict, conflict_at}
 use Rattle.laws.specs.State.{granted_record, Visible}
 use Rattle.laws.specs.Rules.{Rule, Step, Run, start, then, fails, obeys, begins, reads_own, asks, drafts, drops, closes_empty, closes, replies, receives, agrees, objects, counts, grants, refuses, takes_in, releases}
 use Rattle.laws.specs.Frames.{FitClock, FitVersion, FitLines, FitShown, FitNamed, FitBody, Fit, FitRecord, FitHeld, FitConflict, InRange, CallOk, CallsOk, NumbersInRange}
 use Rattle.laws.specs.Further.{Always}
-use Rattle.laws.proofs.Lists.{put_same, put_case, put_all, in_at, in_append, in_without, in_those}
+use Rattle.laws.proofs.Lists.{put_same, put_case, put_all, in_at, in_append, in_without, in_filter}
 use Rattle.laws.proofs.Frames.{only, differ}
 use Rattle.laws.proofs.Shown.{last_is}
 use Rattle.laws.proofs.Few.{run_small, run-opened}
@@ -43,14 +44,14 @@ module _ (net : Net) (ok : Content → Bool) where
 
   -- ## Lines
 
-  length-those : {A : Type 0} (q : A → Bool) (xs : List A) → length (those q xs) ≤ length xs
-  length-those q [] = omega arith
-  length-those q (x ∷ xs) = elim (q x) as (λ b. length (cond b (x ∷ those q xs) (those q xs)) ≤ length (x ∷ xs)) [ true ↦ omega (arith, length-those q xs) | false ↦ omega (arith, length-those q xs) ]
+  length-filter : {A : Type 0} (q : A → Bool) (xs : List A) → length (filter q xs) ≤ length xs
+  length-filter q [] = omega arith
+  length-filter q (x ∷ xs) = elim (q x) as (λ b. length (cond b (x ∷ filter q xs) (filter q xs)) ≤ length (x ∷ xs)) [ true ↦ omega (arith, length-filter q xs) | false ↦ omega (arith, length-filter q xs) ]
 
   homed_fit : (t : ℕ) (ds : List Draft) → FitLines net ok ds → FitLines net ok (homed net t ds)
   homed_fit t ds g = record {
-    each = λ d q. g.each d (in_those (λ d. eqb (net.home d.key) t) ds d q).0;
-    few = omega (arith, g.few, length-those (λ d. eqb (net.home d.key) t) ds);
+    each = λ d q. g.each d (in_filter (λ d. eqb (net.home d.key) t) ds d q).0;
+    few = omega (arith, g.few, length-filter (λ d. eqb (net.home d.key) t) ds);
   }
 
   pub drafted_fit : (ds : List Draft) (k : ℕ) → ((d : Draft) → In d ds → (d.key < net.keys) × (ok d.content ≡ true)) → Drafted ds k → k < net.keys
@@ -107,20 +108,20 @@ module _ (net : Net) (ok : Content → Bool) where
   tray_more hs gs g f x h = elim (in_append x hs gs h) [ inl h ↦ g x h | inr h ↦ f x h ]
 
   tray_freed : (i t : ℕ) (hs : List Held) → Tray hs → Tray (freed net i t hs)
-  tray_freed i t hs g x h = g x (in_those (λ h. not (eqb h.tx i && eqb (net.home h.key) t)) hs x h).0
+  tray_freed i t hs g x h = g x (in_filter (λ h. not (eqb h.tx i && eqb (net.home h.key) t)) hs x h).0
 
   -- ## Names
 
   conflict_fit : (hs : List Held) (xs : List Version) (b : Clock) (i k : ℕ) (c : Conflict) → Tray hs → ((x : Version) → In x xs → FitVersion net ok x) → conflict_at net.depth hs xs b i k ≡ Some c → FitConflict net c
-  conflict_fit hs xs b i k c g f e = elim (either_cases (held_conflict (first_of (another_holds i k) hs)) _ c e) [
-    | inl q ↦ by_held (first_of (another_holds i k) hs) refl q
-    | inr q ↦ elim (either_cases (newer_conflict b (newest xs)) _ c q.1) [
+  conflict_fit hs xs b i k c g f e = elim (option_or_cases (held_conflict (find (another_holds i k) hs)) _ c e) [
+    | inl q ↦ by_held (find (another_holds i k) hs) refl q
+    | inr q ↦ elim (option_or_cases (newer_conflict b (newest xs)) _ c q.1) [
       | inl r ↦ by_newer (newest xs) refl r
       | inr r ↦ by_full (eqb (length xs) net.depth) r.1
     ]
   ]
     where
-      by_held : (o : Option Held) → first_of (another_holds i k) hs ≡ o → held_conflict o ≡ Some c → FitConflict net c
+      by_held : (o : Option Held) → find (another_holds i k) hs ≡ o → held_conflict o ≡ Some c → FitConflict net c
       by_held None q e = absurd (none-some refl e)
       by_held (Some h) q e =
           let z : HeldBy h.origin h.tx ≡ c = cc e in
@@ -142,9 +143,9 @@ module _ (net : Net) (ok : Content → Bool) where
       by_full true e = let z : Full ≡ c = cc e in subst (FitConflict net) z tt
       by_full false e = absurd (none-some refl e)
 
-  either_fit : (a b : Option Objection) → FitNamed net a → FitNamed net b → FitNamed net (either a b)
-  either_fit (Some k) b f g = f
-  either_fit None b f g = g
+  option_or_fit : (a b : Option Objection) → FitNamed net a → FitNamed net b → FitNamed net (option_or a b)
+  option_or_fit (Some k) b f g = f
+  option_or_fit None b f g = g
 
   -- ## The air
 
@@ -305,8 +306,8 @@ module _ (net : Net) (ok : Content → Bool) where
       record {
         begun = g.begun;
         clocks = g.clocks;
-        records = records-put v.records m.tx (voting Closing (pred (v.records m.tx).awaited) (either (v.records m.tx).named named) (v.records m.tx)) g.records
-            (record { origin = x.origin; bound = x.bound; drafts = x.drafts; named = either_fit (v.records m.tx).named named x.named (subst (FitBody net ok) b h.body) });
+        records = records-put v.records m.tx (voting Closing (pred (v.records m.tx).awaited) (option_or (v.records m.tx).named named) (v.records m.tx)) g.records
+            (record { origin = x.origin; bound = x.bound; drafts = x.drafts; named = option_or_fit (v.records m.tx).named named x.named (subst (FitBody net ok) b h.body) });
         book = g.book;
         held = g.held;
         air = mail_landed v.air p g.air;
@@ -332,7 +333,7 @@ module _ (net : Net) (ok : Content → Bool) where
   rule_fits {v} op sm y g (refuses p m named k r b l q e) = subst (InRange net ok) (sym e) (
       let h = g.air m (in_at v.air p m r.there) in
       let x = g.records m.tx in
-      let f : FitNamed net (Some k) = subst (FitNamed net) q (either_fit (v.records m.tx).named named x.named (subst (FitBody net ok) b h.body)) in
+      let f : FitNamed net (Some k) = subst (FitNamed net) q (option_or_fit (v.records m.tx).named named x.named (subst (FitBody net ok) b h.body)) in
       let w = voting Refused 0 (Some k) (v.records m.tx) in
       let fw : FitRecord net ok w = record { origin = x.origin; bound = x.bound; drafts = x.drafts; named = f } in
       record {

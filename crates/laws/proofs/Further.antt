@@ -18,14 +18,14 @@ use Rattle.laws.proofs.Placed.{number_le, written_none}
 use Rattle.laws.proofs.Invariant.{Holds, Invariant, is_read}
 use Rattle.laws.proofs.Frames.{differ}
 use Rattle.laws.proofs.Calls.{homed-drafted}
-use Rattle.laws.proofs.Conflicts.{either-none}
+use Rattle.laws.proofs.Conflicts.{option_or_parts}
 use Rattle.laws.proofs.Granting.{grants_holds}
 use Rattle.laws.proofs.Shown.{in_written}
 use Rattle.laws.proofs.Stand.{run_holds, facts_stand}
 use Rattle.laws.proofs.Ranges.{run_ranges, message-begun}
 use Rattle.laws.proofs.Histories.{txs, Linked, run_linked}
 use Rattle.laws.proofs.Lawful.{count_told, placed_at, in_txs, told_of, bound_of, one, versions_are, within_of, of_within, origin_is, outside_of, lawful}
-use Rattle.laws.proofs.More.{More, run_more, below, those_fewer}
+use Rattle.laws.proofs.More.{More, run_more, below, filter_fewer}
 use Rattle.laws.proofs.Early.{before-placed, before-begun, run_early}
 
 -- what holds of the model's runs holds of the visible ones
@@ -157,12 +157,12 @@ module _ (net : Net) (s : State) (v : Invariant net s) (g : More net s) where
   room-found h = record {
     never_over = g.roomy;
     at_outcome = outcome-room;
-    at_grant = λ p m named k a b o q d. held-room k m.tx (grants_holds net s p m named v a b o (either-none (s.vis.records m.tx).named named q) k d);
+    at_grant = λ p m named k a b o q d. held-room k m.tx (grants_holds net s p m named v a b o (option_or_parts (s.vis.records m.tx).named named q) k d);
     one_line = λ m n ls k q b.
         let y = meant_for m n ls q b in
         let E = y.0 in
         let t : tally (λ d. eqb d.key k) E.drafts ≤ 1 = subst (λ (ds : List Draft). tally (λ d. eqb d.key k) ds ≤ 1) (sym (ap (λ (x : Placement). x.drafts) (v.granteds E y.1).1)) (g.tidy E.tx k) in
-        subst (λ (ds : List Draft). tally (λ d. eqb d.key k) ds ≤ 1) (sym y.3) (omega (arith, t, those_fewer (λ d. eqb d.key k) (λ d. eqb (net.home d.key) m.to) E.drafts));
+        subst (λ (ds : List Draft). tally (λ d. eqb d.key k) ds ≤ 1) (sym y.3) (omega (arith, t, filter_fewer (λ d. eqb d.key k) (λ d. eqb (net.home d.key) m.to) E.drafts));
     one_draft = g.tidy;
   }
 

@@ -1,14 +1,15 @@
 -- A granted outcome that lands, and the vote that grants, keep the invariant. Assumes nothing.
 use Rattle.std.proofs.Common.{◌≡◌, ℕ, zero, suc, ◌<◌, ◌≤◌, Bool, true, false, cond, ◌&&◌, eqb, ◌≢◌, ◌⊎◌, List, [], ◌∷◌, ◌++◌, Some, None, Option, sym, refl, ap, ◌∙◌, subst, inl, inr, append-nil, arith}
+use Rattle.std.specs.Option.{option_or}
 use Rattle.std.proofs.lemmas.Bool.{eq-eqb, ne_eqb, cases_eq, both_ways, lt-leb, and_from}
 use Rattle.clocks.specs.declared.Version.{Version}
 use Rattle.messages.specs.declared.Draft.{Draft}
 use Rattle.tables.specs.declared.Held.{Held}
 use Rattle.tables.specs.declared.Phase.TheVariants.{Waiting, Closing, Granted, Refused, Dropped}
 use Rattle.messages.specs.declared.Objection.{Objection}
-use Rattle.laws.proofs.Conflicts.{none-some, either-none, says_map}
+use Rattle.laws.proofs.Conflicts.{none-some, option_or_parts, says_map}
 use Rattle.laws.specs.State.{granted_record, placement}
-use Rattle.laws.specs.Lists.{put, In, At, without, either}
+use Rattle.laws.specs.Lists.{put, In, At, without}
 use Rattle.laws.specs.Net.{Clock, Record, vote, granted, refused, Message, Placement, Net, ◌⊑◌, Drafted, has_closed}
 use Rattle.laws.proofs.Log.{taken, count, Seen, seen}
 use Rattle.laws.proofs.Model.{Answered, State, on, placing}
@@ -223,7 +224,7 @@ module _ (P : List Placement) (T : Placement) (cs : ℕ → Clock) (n : T.number
     ];
   }
 
-pub grants_keeps : (net : Net) (s : State) (p : ℕ) (m : Message) (named : Option Objection) → Invariant net s → Ripe net s.vis p m → m.body ≡ vote named → (s.vis.records m.tx).awaited ≡ 1 → either (s.vis.records m.tx).named named ≡ None → Invariant net (placing s (placement s.vis m.tx) (granting net s.vis p m))
+pub grants_keeps : (net : Net) (s : State) (p : ℕ) (m : Message) (named : Option Objection) → Invariant net s → Ripe net s.vis p m → m.body ≡ vote named → (s.vis.records m.tx).awaited ≡ 1 → option_or (s.vis.records m.tx).named named ≡ None → Invariant net (placing s (placement s.vis m.tx) (granting net s.vis p m))
 grants_keeps net s p m named v ripe e one q =
     let a = ripe.there in
     let h = in_at s.vis.air p m a in
@@ -245,7 +246,7 @@ grants_keeps net s p m named v ripe e one q =
     let is = intent_shut old (ap has_closed c) in
     let same = same-put s.vis.records i r (inr (sym is)) in
     let n : T.number ≡ suc (count P T.origin) = ap suc (v.clocks.own o) in
-    let all : (k : ℕ) → Drafted T.drafts k → Holds s.vis.held k T.tx = grants_holds net s p m named v a e one (either-none old.named named q) in
+    let all : (k : ℕ) → Drafted T.drafts k → Holds s.vis.held k T.tx = grants_holds net s p m named v a e one (option_or_parts old.named named q) in
     let others : (E : Placement) → In E P → E.tx ≢ i = λ E l. placed-other P s.vis.records E i v.granteds l (differ Closing Granted refl c) in
     let numbered : Numbered (T ∷ P) = (n, v.order.numbered) in
     let ordered : Ordered (T ∷ P) = ((λ E k l d w. let x = v.holders.ahead k i E (all k w) l d (others E l) in rw is at x), v.order.ordered) in

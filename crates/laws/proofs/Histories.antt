@@ -1,5 +1,6 @@
 -- What a history tells of a transaction is what its record says. Assumes nothing.
 use Rattle.std.proofs.Common.{◌≡◌, ℕ, suc, cond, eqb, List, [], ◌∷◌, ◌++◌, length, Some, None, Ok, Result, sym, refl, ap, ◌∙◌, subst, arith}
+use Rattle.std.specs.Option.{option_or}
 use Rattle.std.proofs.lemmas.Bool.{eq-eqb, ne_eqb}
 use Rattle.tables.specs.declared.Call.{Call}
 use Rattle.faults.specs.declared.Cause.{Cause}
@@ -7,7 +8,7 @@ use Rattle.tables.specs.declared.Told.{Told}
 use Rattle.tables.specs.declared.Phase.TheVariants.{Waiting, Closing, Granted, Refused, Dropped}
 use Rattle.clocks.specs.declared.Content.{Content}
 use Rattle.tables.specs.declared.Reading.{Reading}
-use Rattle.laws.specs.Lists.{put, either}
+use Rattle.laws.specs.Lists.{put}
 use Rattle.laws.specs.Net.{Record, Placement, Net, content_of, writer_of}
 use Rattle.laws.proofs.Model.{Answered, Logged, State, after-step, next, noting, on, placing, start, then}
 use Rattle.laws.specs.Rules.{Rule, Step, agrees, asks, begins, closes, closes_empty, counts, drafts, drops, fails, grants, receives, releases, reads_own, obeys, objects, refuses, replies, takes_in}
@@ -125,7 +126,7 @@ linked_rule net {s} {c = call} {a = told} h v l (receives p m k shown a b e) = s
 linked_rule net {s} {c = call} {a = told} h v l (agrees p m lines r b n e) = subst (λ (w : Visible). Linked (after call (Ok told) h) (on s w)) (sym e) (record { begun = l.begun; origins = l.origins; drafts = l.drafts; placed = l.placed; reads = l.reads; last = l.last; entries = l.entries; counted = (tt, l.counted) })
 linked_rule net {s} {c = call} {a = told} h v l (objects p m lines k r b y e) = subst (λ (w : Visible). Linked (after call (Ok told) h) (on s w)) (sym e) (record { begun = l.begun; origins = l.origins; drafts = l.drafts; placed = l.placed; reads = l.reads; last = l.last; entries = l.entries; counted = (tt, l.counted) })
 linked_rule net {s} {c = call} {a = told} h v l (counts p m named r b q e) = subst (λ (w : Visible). Linked (after call (Ok told) h) (on s w)) (sym e) (
-    let r = voting Closing _ (either (s.vis.records m.tx).named named) (s.vis.records m.tx) in
+    let r = voting Closing _ (option_or (s.vis.records m.tx).named named) (s.vis.records m.tx) in
     record { begun = l.begun; origins = o_put h s m.tx r l refl; drafts = d_put h s m.tx r l refl; placed = l.placed; reads = l.reads; last = l.last; entries = l.entries; counted = (tt, l.counted) })
 linked_rule net {s} {c = call} {a = told} h v l (grants p m named r b one q e) = subst (λ (w : Visible). Linked (after call (Ok told) h) (placing s (placement s.vis m.tx) w)) (sym e) (
     let o = (s.vis.records m.tx).origin in

@@ -1,5 +1,6 @@
 -- A key is held once, and what is granted with drafts is placed. Assumes nothing.
 use Rattle.std.proofs.Common.{◌≡◌, ℕ, zero, suc, pred, ◌+◌, ◌<◌, ◌≤◌, Bool, true, false, cond, not, ◌&&◌, eqb, ◌≢◌, ◌⊎◌, List, [], ◌∷◌, ◌++◌, length, Some, None, sym, refl, ap, ◌∙◌, subst, inl, inr, arith}
+use Rattle.std.specs.Option.{option_or}
 use Rattle.std.proofs.lemmas.Bool.{eq-eqb, ne_eqb, eqb-true, cases_eq, cases_Bool, both_ways, and_parts, and_from, and_left, and_right}
 use Rattle.messages.specs.declared.Draft.{Draft}
 use Rattle.tables.specs.declared.Held.{Held}
@@ -7,7 +8,7 @@ use Rattle.tables.specs.declared.Call.{Call}
 use Rattle.tables.specs.declared.Told.{Told}
 use Rattle.tables.specs.declared.Phase.TheVariants.{Open, Waiting, Closing, Granted, Refused, Dropped}
 use Rattle.laws.proofs.Conflicts.{Conflicts, taken_by, unopposed, none-some}
-use Rattle.laws.specs.Lists.{put, In, At, without, tally, either}
+use Rattle.laws.specs.Lists.{put, In, At, without, tally}
 use Rattle.laws.specs.Net.{Clock, Record, Body, query, answer, prepare, vote, granted, refused, Message, Placement, Net, Drafted, newest_within, has_closed, is_ballot}
 use Rattle.laws.specs.Words.{opened, in_phase, drafting, reading_at, voting, placed_as, message, redrafted, unless_none, holds_of, homed, freed, prepares, prepare_to, grants_to, refusals_to, Event}
 use Rattle.laws.specs.History.{placed_in, number_of, number_in, place_of, from_one}
@@ -23,7 +24,7 @@ use Rattle.laws.proofs.Calls.{homed-drafted, each-prepare}
 use Rattle.laws.proofs.Voting.{holds_cases, each-refusal}
 use Rattle.laws.proofs.Granting.{each_grant}
 use Rattle.laws.proofs.Stand.{run_holds, intent_drafted}
-use Rattle.laws.proofs.More.{drafts_of, More, run_more, those_fewer}
+use Rattle.laws.proofs.More.{drafts_of, More, run_more, filter_fewer}
 use Rattle.laws.proofs.Histories.{txs, length_txs, Linked, run_linked}
 use Rattle.laws.proofs.Places.{Places, run-places}
 use Rattle.laws.proofs.Lawful.{placed_at, numbered_as}
@@ -80,7 +81,7 @@ unheld_fewer : (net : Net) (hs gs : List Held) (air : List Message) → ((k i : 
 unheld_fewer net hs gs air f g m ls k h b q x = g m ls k h b q (f k m.tx x)
 
 once-freed : (net : Net) (i t : ℕ) (hs : List Held) → Once hs → Once (freed net i t hs)
-once-freed net i t hs g k = omega (arith, g k, those_fewer (λ h. eqb h.key k) (λ h. not (eqb h.tx i && eqb (net.home h.key) t)) hs)
+once-freed net i t hs g k = omega (arith, g k, filter_fewer (λ h. eqb h.key k) (λ h. not (eqb h.tx i && eqb (net.home h.key) t)) hs)
 
 won_put : (P : List Placement) (rs : ℕ → Record) (i : ℕ) (r : Record) → Won P rs → (r.phase ≡ Granted → (r.drafts ≡ []) ⊎ In i (txs P)) → Won P (put rs i r)
 won_put P rs i r g f = put_case (λ j x. x.phase ≡ Granted → (x.drafts ≡ []) ⊎ In j (txs P)) rs i r f (λ j _. g j)
@@ -183,7 +184,7 @@ module _ (net : Net) (s : State) (p : ℕ) (m : Message) (lines : List Draft) (v
       both = tally-append (λ h. eqb h.key k) s.vis.held (holds_of m.tx m.from lines) ∙ ap (λ (z : ℕ). tally (λ h. eqb h.key k) s.vis.held + z) (holds_tally m.tx m.from lines k)
 
       few : drafts_of k lines ≤ 1
-      few = subst (λ (ds : List Draft). drafts_of k ds ≤ 1) (sym the_lines) (omega (arith, more.tidy m.tx k, those_fewer (λ d. eqb d.key k) (λ d. eqb (net.home d.key) m.to) (s.vis.records m.tx).drafts))
+      few = subst (λ (ds : List Draft). drafts_of k ds ≤ 1) (sym the_lines) (omega (arith, more.tidy m.tx k, filter_fewer (λ d. eqb d.key k) (λ d. eqb (net.home d.key) m.to) (s.vis.records m.tx).drafts))
 
       free : Drafted lines k → (h : Held) → In h s.vis.held → eqb h.key k ≡ false
       free d h q = ne_eqb h.key k (λ e. elim (cases_eq h.tx m.tx) [
@@ -252,7 +253,7 @@ rule_kept net {s} v r g (counts p m named a b l e) = subst (λ (w : Visible). Ke
   once = g.once;
   lone = lone_landed s.vis.air p m a.there g.lone;
   unheld = unheld_landed net s.vis.held s.vis.air p g.unheld;
-  won = won_put s.placed s.vis.records m.tx (voting Closing (pred (s.vis.records m.tx).awaited) (either (s.vis.records m.tx).named named) (s.vis.records m.tx)) g.won (λ x. absurd (differ Closing Granted refl refl x));
+  won = won_put s.placed s.vis.records m.tx (voting Closing (pred (s.vis.records m.tx).awaited) (option_or (s.vis.records m.tx).named named) (s.vis.records m.tx)) g.won (λ x. absurd (differ Closing Granted refl refl x));
 })
 rule_kept net {s} v r g (grants p m named a b l q e) = subst (λ (w : Visible). Kept net (placing s (placement s.vis m.tx) w)) (sym e) (
     let i = m.tx in

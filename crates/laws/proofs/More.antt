@@ -1,6 +1,7 @@
 -- What else holds after every call: votes are awaited while a transaction closes, no key is drafted twice, no list is longer than
 -- the depth, a bound only grows, and outcomes are accounted for. Assumes nothing.
-use Rattle.std.proofs.Common.{◌≡◌, ℕ, zero, suc, pred, ◌+◌, ◌<◌, ◌≤◌, Bool, true, false, cond, not, ◌&&◌, eqb, ◌≢◌, ◌⊎◌, List, [], ◌∷◌, ◌++◌, length, Some, None, Option, sym, refl, ap, ◌∙◌, subst, inl, inr, arith, length-append}
+use Rattle.std.proofs.Common.{◌≡◌, ℕ, zero, suc, pred, ◌+◌, ◌<◌, ◌≤◌, Bool, true, false, cond, not, ◌&&◌, eqb, ◌≢◌, ◌⊎◌, List, [], ◌∷◌, ◌++◌, length, Some, None, filter, Option, sym, refl, ap, ◌∙◌, subst, inl, inr, arith, length-append}
+use Rattle.std.specs.Option.{option_or}
 use Rattle.std.proofs.lemmas.Bool.{eq-eqb, ne_eqb, cases_eq, both_ways, and_from}
 use Rattle.clocks.specs.declared.Version.{Version}
 use Rattle.messages.specs.declared.Draft.{Draft}
@@ -8,9 +9,9 @@ use Rattle.tables.specs.declared.Call.{Call}
 use Rattle.tables.specs.declared.Told.{Told}
 use Rattle.tables.specs.declared.Phase.TheVariants.{Open, Waiting, Closing, Granted, Refused, Dropped}
 use Rattle.messages.specs.declared.Objection.{Objection}
-use Rattle.laws.proofs.Conflicts.{either-none}
+use Rattle.laws.proofs.Conflicts.{option_or_parts}
 use Rattle.clocks.specs.declared.Content.{Content}
-use Rattle.laws.specs.Lists.{put, In, At, without, tally, those, either}
+use Rattle.laws.specs.Lists.{put, In, At, without, tally}
 use Rattle.laws.specs.Net.{Clock, Record, query, answer, prepare, vote, granted, refused, Message, Placement, Net, ◌⊑◌, Drafted, written, newest_within, is_ballot, is_granted}
 use Rattle.laws.proofs.Log.{Seen}
 use Rattle.laws.proofs.Model.{Logged, State, by_step, next, noting, on, placing, start, then}
@@ -115,11 +116,11 @@ length-written w o n (d ∷ ds) k = go (length-written w o n ds k) (eqb d.key k)
     go ih true = omega (arith, ih)
     go ih false = omega (arith, ih)
 
-pub those_fewer : {A : Type 0} (q f : A → Bool) (xs : List A) → tally q (those f xs) ≤ tally q xs
-those_fewer q f [] = omega arith
-those_fewer q f (x ∷ xs) = go (those_fewer q f xs) (f x)
+pub filter_fewer : {A : Type 0} (q f : A → Bool) (xs : List A) → tally q (filter f xs) ≤ tally q xs
+filter_fewer q f [] = omega arith
+filter_fewer q f (x ∷ xs) = go (filter_fewer q f xs) (f x)
   where
-    go : tally q (those f xs) ≤ tally q xs → (b : Bool) → tally q (cond b (x ∷ those f xs) (those f xs)) ≤ tally q (x ∷ xs)
+    go : tally q (filter f xs) ≤ tally q xs → (b : Bool) → tally q (cond b (x ∷ filter f xs) (filter f xs)) ≤ tally q (x ∷ xs)
     go ih true = omega (arith, ih)
     go ih false = omega (arith, ih)
 
@@ -141,7 +142,7 @@ added_roomy net book t T tidy room g k = go (drafted? (homed net t T.drafts) k)
     go : Drafted (homed net t T.drafts) k ⊎ (Drafted (homed net t T.drafts) k → ⊥) → length (added net book t T k) ≤ net.depth
     go (inl d) =
         let x = homed-drafted net t T.drafts k d in
-        omega (arith, total, length-written T.tx T.origin T.number ls k, those_fewer (λ d. eqb d.key k) (λ d. eqb (net.home d.key) t) T.drafts, tidy k, below (length (book k)) net.depth (g k) (room k x.0 x.1))
+        omega (arith, total, length-written T.tx T.origin T.number ls k, filter_fewer (λ d. eqb d.key k) (λ d. eqb (net.home d.key) t) T.drafts, tidy k, below (length (book k)) net.depth (g k) (room k x.0 x.1))
     go (inr n) = omega (arith, total, ap length (written_none T.tx T.origin T.number ls k n), g k)
 
 -- ## The steps
@@ -207,7 +208,7 @@ closes-more net s i n g =
       owed = owed_sent net s.placed s.vis.clocks s.vis.air ms (each (λ x. is_granted x.body ≡ false) (λ t. refl)) g.owed;
     }
 
-grants-more : (net : Net) (s : State) (p : ℕ) (m : Message) (named : Option Objection) → Invariant net s → More net s → Ripe net s.vis p m → m.body ≡ vote named → (s.vis.records m.tx).awaited ≡ 1 → either (s.vis.records m.tx).named named ≡ None →
+grants-more : (net : Net) (s : State) (p : ℕ) (m : Message) (named : Option Objection) → Invariant net s → More net s → Ripe net s.vis p m → m.body ≡ vote named → (s.vis.records m.tx).awaited ≡ 1 → option_or (s.vis.records m.tx).named named ≡ None →
     (let o = (s.vis.records m.tx).origin in
     let r = granted_record s.vis m.tx in
     let T = placed_as m.tx r in
@@ -222,7 +223,7 @@ grants-more net s p m named v g ripe e one q =
     let T = placed_as i r in
     let b = v.votes.sound m (in_at s.vis.air p m a) (ap is_ballot e) in
     let ms = grants_to net T net.towers in
-    let all : (k : ℕ) → Drafted T.drafts k → Holds s.vis.held k T.tx = grants_holds net s p m named v a e one (either-none old.named named q) in (
+    let all : (k : ℕ) → Drafted T.drafts k → Holds s.vis.held k T.tx = grants_holds net s p m named v a e one (option_or_parts old.named named q) in (
       ready_put s.vis.records i r g.ready (λ c. absurd (differ Granted Closing refl refl c)),
       tidy_put s.vis.records i r g.tidy (g.tidy i),
       added_roomy net s.vis.book o T (g.tidy i) (λ k d _. v.holders.room k i (all k d)) g.roomy,
@@ -329,7 +330,7 @@ rule_more net {s} v g (objects p m lines k r b y e) = subst (λ (w : Visible). M
     })
 rule_more net {s} v g (counts p m named r b l e) = subst (λ (w : Visible). More net (on s w)) (sym e) (
     let i = m.tx in
-    let x = voting Closing (pred (s.vis.records i).awaited) (either (s.vis.records i).named named) (s.vis.records i) in
+    let x = voting Closing (pred (s.vis.records i).awaited) (option_or (s.vis.records i).named named) (s.vis.records i) in
     record {
       ready = ready_put s.vis.records i x g.ready (λ _. less (s.vis.records i).awaited l);
       tidy = tidy_put s.vis.records i x g.tidy (g.tidy i);

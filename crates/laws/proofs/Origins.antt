@@ -1,5 +1,6 @@
 -- The tower that a holder is said to be of is the holder's origin. Assumes nothing.
 use Rattle.std.proofs.Common.{◌≡◌, ℕ, suc, pred, ◌<◌, false, not, ◌&&◌, eqb, List, [], ◌∷◌, ◌++◌, length, Some, None, Option, sym, refl, ap, ◌∙◌, subst, inl, inr, arith}
+use Rattle.std.specs.Option.{option_or}
 use Rattle.std.proofs.lemmas.Bool.{cases_lt, both_ways}
 use Rattle.messages.specs.declared.Draft.{Draft}
 use Rattle.messages.specs.declared.Objection.{Objection}
@@ -8,14 +9,14 @@ use Rattle.tables.specs.declared.Held.{Held}
 use Rattle.tables.specs.declared.Call.{Call}
 use Rattle.tables.specs.declared.Told.{Told}
 use Rattle.tables.specs.declared.Phase.TheVariants.{Waiting, Closing, Granted, Refused, Dropped}
-use Rattle.laws.specs.Lists.{put, In, without, either}
+use Rattle.laws.specs.Lists.{put, In, without}
 use Rattle.laws.specs.Net.{Clock, Record, query, prepare, vote, Message, Net, is_ballot}
 use Rattle.laws.specs.Words.{opened, in_phase, drafting, reading_at, voting, message, redrafted, holds_of, freed, prepares, grants_to, refusals_to}
 use Rattle.laws.specs.State.{Visible, granted_record, placement}
 use Rattle.laws.specs.Rules.{Rule, begins, reads_own, asks, drafts, drops, closes_empty, closes, replies, receives, agrees, objects, counts, grants, refuses, takes_in, releases}
 use Rattle.laws.proofs.Model.{State, on, noting, placing, next}
-use Rattle.laws.proofs.Lists.{put_keeps, put_other, put_case, in_at, in_append, in_without, in_those}
-use Rattle.laws.proofs.Conflicts.{none-some, either_cases, Evidence, opposed}
+use Rattle.laws.proofs.Lists.{put_keeps, put_other, put_case, in_at, in_append, in_without, in_filter}
+use Rattle.laws.proofs.Conflicts.{none-some, option_or_cases, Evidence, opposed}
 use Rattle.laws.proofs.Invariant.{Invariant}
 use Rattle.laws.proofs.Frames.{differ, only}
 use Rattle.laws.proofs.Calls.{no_vote, each-prepare}
@@ -60,7 +61,7 @@ module _ (n : ℕ) (rs : ℕ → Record) (hs : List Held) (air : List Message) w
   o_held gs f g = record { held = f; voted = g.voted; named = g.named }
 
   o_freed : (net : Net) (i t : ℕ) → Origins n rs hs air → Origins n rs (freed net i t hs) air
-  o_freed net i t g = o_held (freed net i t hs) (λ h q. g.held h (in_those (λ h. not (eqb h.tx i && eqb (net.home h.key) t)) hs h q).0) g
+  o_freed net i t g = o_held (freed net i t hs) (λ h q. g.held h (in_filter (λ h. not (eqb h.tx i && eqb (net.home h.key) t)) hs h q).0) g
 
   o_begun : (t : ℕ) (c : Clock) → Origins n rs hs air → Origins (suc n) (put rs n (opened t c)) hs air
   o_begun t c g =
@@ -90,8 +91,8 @@ module _ (net : Net) (s : State) (v : Invariant net s) (g : OriginsOf s) where
   abbrev rs : ℕ → Record
   rs = s.vis.records
 
-  kept_named : (m : Message) (named : Option Objection) (a : Objection) → In m s.vis.air → m.body ≡ vote named → either (rs m.tx).named named ≡ Some a → Sound n rs a
-  kept_named m named a h e q = elim (either_cases (rs m.tx).named named a q) [
+  kept_named : (m : Message) (named : Option Objection) (a : Objection) → In m s.vis.air → m.body ≡ vote named → option_or (rs m.tx).named named ≡ Some a → Sound n rs a
+  kept_named m named a h e q = elim (option_or_cases (rs m.tx).named named a q) [
     | inl f ↦ g.named m.tx a f
     | inr f ↦ g.voted m a h (e ∙ ap vote f.1)
   ]
@@ -148,7 +149,7 @@ module _ (net : Net) (s : State) (v : Invariant net s) (g : OriginsOf s) where
       let y = message m.tx m.to m.from m.bound (vote (Some k)) in
       o_sent n rs s.vis.held (rest p) (y ∷ []) (λ x a h. only (λ x. x.body ≡ vote (Some a) → Sound n rs a) y (λ z. let w : k ≡ a = cc z in subst (Sound n rs) w (objected m k (opposed net s.vis m lines k q).1)) x h) (removed p))
   rule_origins (counts p m named r b l e) = subst (λ (w : Visible). OriginsOf (on s w)) (sym e)
-      (o_put n rs s.vis.held (rest p) m.tx (voting Closing (pred (rs m.tx).awaited) (either (rs m.tx).named named) (rs m.tx)) refl (λ a. kept_named m named a (in_at s.vis.air p m r.there) b) (removed p))
+      (o_put n rs s.vis.held (rest p) m.tx (voting Closing (pred (rs m.tx).awaited) (option_or (rs m.tx).named named) (rs m.tx)) refl (λ a. kept_named m named a (in_at s.vis.air p m r.there) b) (removed p))
   rule_origins (grants p m named r b l q e) = subst (λ (w : Visible). OriginsOf (placing s (placement s.vis m.tx) w)) (sym e) (
       let i = m.tx in
       let w = granted_record s.vis i in

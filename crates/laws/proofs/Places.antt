@@ -1,10 +1,11 @@
 -- A record's number and place are what the history counts, and 0 for what is not placed. Assumes nothing.
 use Rattle.std.proofs.Common.{◌≡◌, ℕ, suc, pred, cond, eqb, List, length, Some, None, sym, refl, ap, ◌∙◌, subst, arith}
+use Rattle.std.specs.Option.{option_or}
 use Rattle.std.proofs.lemmas.Bool.{eq-eqb, ne_eqb}
 use Rattle.tables.specs.declared.Call.{Call}
 use Rattle.tables.specs.declared.Told.{Told}
 use Rattle.tables.specs.declared.Phase.TheVariants.{Waiting, Closing, Granted, Refused, Dropped}
-use Rattle.laws.specs.Lists.{put, either}
+use Rattle.laws.specs.Lists.{put}
 use Rattle.laws.specs.Net.{Record, Net}
 use Rattle.laws.specs.Words.{opened, in_phase, drafting, reading_at, voting, redrafted, prepares, Event}
 use Rattle.laws.specs.State.{Visible, granted_record, placement}
@@ -43,7 +44,7 @@ rule_places net {s} v l g (replies p m k first r b e) = subst (λ (w : Visible).
 rule_places net {s} v l g (receives p m k shown x b e) = subst (λ (w : Visible). Places (noting s (record { tx = m.tx; key = k; shown = shown }) w)) (sym e) (let k = kept s m.tx (reading_at m.bound (s.vis.records m.tx)) refl refl g in record { place = k.0; number = k.1 })
 rule_places net {s} v l g (agrees p m lines r b n e) = subst (λ (w : Visible). Places (on s w)) (sym e) (record { place = g.place; number = g.number })
 rule_places net {s} v l g (objects p m lines x r b n e) = subst (λ (w : Visible). Places (on s w)) (sym e) (record { place = g.place; number = g.number })
-rule_places net {s} v l g (counts p m named r b q e) = subst (λ (w : Visible). Places (on s w)) (sym e) (let k = kept s m.tx (voting Closing (pred (s.vis.records m.tx).awaited) (either (s.vis.records m.tx).named named) (s.vis.records m.tx)) refl refl g in record { place = k.0; number = k.1 })
+rule_places net {s} v l g (counts p m named r b q e) = subst (λ (w : Visible). Places (on s w)) (sym e) (let k = kept s m.tx (voting Closing (pred (s.vis.records m.tx).awaited) (option_or (s.vis.records m.tx).named named) (s.vis.records m.tx)) refl refl g in record { place = k.0; number = k.1 })
 rule_places net {s} v l g (grants p m named r b one q e) = subst (λ (w : Visible). Places (placing s (placement s.vis m.tx) w)) (sym e) (
     let i = m.tx in
     let w = granted_record s.vis i in

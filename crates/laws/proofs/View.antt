@@ -8,7 +8,7 @@ use Rattle.clocks.specs.Clocks.{Covers, covers, within}
 use Rattle.clocks.proofs.Covering.{covers-true, true-covers}
 use Rattle.laws.specs.Faults.{covers_first}
 use Rattle.laws.proofs.Answering.{covers_below}
-use Rattle.laws.specs.Lists.{put, At, without, those}
+use Rattle.laws.specs.Lists.{put, At, without}
 use Rattle.messages.specs.declared.Draft.{Draft}
 use Rattle.laws.specs.Net.{Clock, written, inside, newest, newest_within}
 use Rattle.laws.specs.State.{Visible}
@@ -54,11 +54,6 @@ without-cut [] zero = refl
 without-cut [] (suc i) = refl
 without-cut (x ∷ xs) zero = refl
 without-cut (x ∷ xs) (suc i) = ap (λ l. x ∷ l) (without-cut xs i)
-
--- a filter of the library
-pub those_kept : {A : Type 0} (q : A → Bool) (xs : List A) → those q xs ≡ filter q xs
-those_kept q [] = refl
-those_kept q (x ∷ xs) = rw (those_kept q xs)
 
 -- `rows[t][o] = n`
 pub clocks-set : (rows : List (List ℕ)) (t o n : ℕ) → t < length rows → o < length (get_or rows t []) →

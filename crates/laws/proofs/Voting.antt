@@ -1,16 +1,17 @@
 -- A prepare, or a vote that grants nothing, that lands keeps the invariant. Assumes nothing.
 use Rattle.std.proofs.Common.{◌≡◌, ℕ, zero, suc, pred, ◌<◌, ◌≤◌, Bool, true, false, cond, ◌&&◌, eqb, ◌≢◌, ◌⊎◌, List, [], ◌∷◌, ◌++◌, length, Some, None, Option, sym, refl, ap, ◌∙◌, subst, inl, inr, arith}
+use Rattle.std.specs.Option.{option_or}
 use Rattle.std.proofs.lemmas.Bool.{eq-eqb, ne_eqb, cases_eq, cases_Bool, cond-true, cond-false, both_ways, leb-true, leb-false, and_left, and_from}
 use Rattle.clocks.specs.declared.Version.{Version}
 use Rattle.messages.specs.declared.Draft.{Draft}
 use Rattle.tables.specs.declared.Held.{Held}
 use Rattle.tables.specs.declared.Phase.TheVariants.{Waiting, Closing, Granted, Refused, Dropped}
 use Rattle.messages.specs.declared.Objection.{Objection}
-use Rattle.laws.proofs.Conflicts.{Conflicts, taken_by, newer, full, Evidence, either_cases, either-none, Any}
+use Rattle.laws.proofs.Conflicts.{Conflicts, taken_by, newer, full, Evidence, option_or_cases, option_or_parts, Any}
 use Rattle.messages.specs.declared.Conflict.{Conflict}
 use Rattle.messages.specs.declared.Conflict.TheVariants.{Held as HeldBy, Newer, Full}
 use Rattle.laws.specs.Laws.{Says}
-use Rattle.laws.specs.Lists.{put, In, At, without, either}
+use Rattle.laws.specs.Lists.{put, In, At, without}
 use Rattle.laws.specs.Net.{Clock, Record, prepare, vote, refused, Message, Placement, Net, ◌⊑◌, Drafted, inside, newest, has_closed}
 use Rattle.laws.proofs.Log.{taken, Seen, seen, IsPlaced}
 use Rattle.laws.proofs.Model.{State, on}
@@ -260,19 +261,19 @@ ballots-other i air p m a t =
     omega (arith, tally_at f air p m a, e)
 
 -- the key named so far, or by this vote, is named for cause
-named-cause : (net : Net) (s : State) (m : Message) (named : Option Objection) (k : Objection) → Invariant net s → In m s.vis.air → m.body ≡ vote named → (s.vis.records m.tx).phase ≡ Closing → either (s.vis.records m.tx).named named ≡ Some k →
+named-cause : (net : Net) (s : State) (m : Message) (named : Option Objection) (k : Objection) → Invariant net s → In m s.vis.air → m.body ≡ vote named → (s.vis.records m.tx).phase ≡ Closing → option_or (s.vis.records m.tx).named named ≡ Some k →
     Justified net (intents s.vis.records) s.placed s.vis.book m.tx k
-named-cause net s m named k v h e c q = elim (either_cases (s.vis.records m.tx).named named k q) [
+named-cause net s m named k v h e c q = elim (option_or_cases (s.vis.records m.tx).named named k q) [
   | inl f ↦ v.refusals.named m.tx k (ap has_closed c) f
   | inr f ↦ v.refusals.voted m k h (e ∙ ap vote f.1)
 ]
 
 counts_votes : (net : Net) (rs : ℕ → Record) (held : List Held) (air : List Message) (p : ℕ) (m : Message) (named : Option Objection) → At air p m → m.body ≡ vote named → Votes net rs held air →
-    Votes net (put rs m.tx (voting Closing (pred (rs m.tx).awaited) (either (rs m.tx).named named) (rs m.tx))) held (without air p)
+    Votes net (put rs m.tx (voting Closing (pred (rs m.tx).awaited) (option_or (rs m.tx).named named) (rs m.tx))) held (without air p)
 counts_votes net rs held air p m named a e g =
     let i = m.tx in
     let old = rs i in
-    let r = voting Closing (pred old.awaited) (either old.named named) old in
+    let r = voting Closing (pred old.awaited) (option_or old.named named) old in
     let rest = without air p in
     let h = in_at air p m a in
     let b = g.sound m h (ap is_ballot e) in
@@ -284,7 +285,7 @@ counts_votes net rs held air p m named a e g =
           (λ j n c. g.awaited j c ∙ ballots-other j air p m a n);
       pending = λ j k. put_case (λ j x. x.phase ≡ Closing → Drafted x.drafts k → x.named ≡ None →
           Holds held k j ⊎ ((m : Message) × In m rest × (m.tx ≡ j) × (is_ballot m.body ≡ true) × (polled m ≡ net.home k))) rs i r
-          (λ _ d n. let ns = either-none old.named named n in
+          (λ _ d n. let ns = option_or_parts old.named named n in
           elim (g.pending i k b.closing d ns.0) [
             | inl h ↦ inl h
             | inr x ↦ elim (in_rest air p m x.0 a x.1) [
@@ -311,7 +312,7 @@ counts_keeps net s p m named v ripe e =
     let P = s.placed in
     let i = m.tx in
     let old = s.vis.records i in
-    let r = voting Closing (pred old.awaited) (either old.named named) old in
+    let r = voting Closing (pred old.awaited) (option_or old.named named) old in
     let rs = put s.vis.records i r in
     let rest = without s.vis.air p in
     let c : old.phase ≡ Closing = (v.votes.sound m h (ap is_ballot e)).closing in
@@ -387,7 +388,7 @@ each-refusal net i r (suc t) Q f x h = elim (in_append x (refusals_to net i r t)
     go false [] g = absurd g
     go false (d ∷ ds) g = only Q (refused_to net i r t) (f t) x g
 
-pub refuses_keeps : (net : Net) (s : State) (p : ℕ) (m : Message) (named : Option Objection) (k : Objection) → Invariant net s → Ripe net s.vis p m → m.body ≡ vote named → (s.vis.records m.tx).awaited ≡ 1 → either (s.vis.records m.tx).named named ≡ Some k → Invariant net (on s (refusing net s.vis p m k))
+pub refuses_keeps : (net : Net) (s : State) (p : ℕ) (m : Message) (named : Option Objection) (k : Objection) → Invariant net s → Ripe net s.vis p m → m.body ≡ vote named → (s.vis.records m.tx).awaited ≡ 1 → option_or (s.vis.records m.tx).named named ≡ Some k → Invariant net (on s (refusing net s.vis p m k))
 refuses_keeps net s p m named k v ripe e one q =
     let a = ripe.there in
     let h = in_at s.vis.air p m a in

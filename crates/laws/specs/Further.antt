@@ -1,5 +1,6 @@
 -- Further laws, each by its name.
 use Rattle.std.specs.Prelude.{◌≡◌, ℕ, ◌+◌, ◌<◌, ◌≤◌, true, ◌≢◌, ◌⊎◌, List, [], ◌∷◌, length, None, Option, Result, nat_eq}
+use Rattle.std.specs.Option.{option_or}
 use Rattle.clocks.specs.declared.Version.{Version}
 use Rattle.messages.specs.declared.Draft.{Draft}
 use Rattle.messages.specs.declared.Objection.{Objection}
@@ -8,7 +9,7 @@ use Rattle.faults.specs.declared.Cause.{Cause}
 use Rattle.tables.specs.declared.Told.{Told}
 use Rattle.tables.specs.declared.Phase.{Phase}
 use Rattle.tables.specs.declared.Phase.TheVariants.{Waiting, Closing, Granted, Refused}
-use Rattle.laws.specs.Lists.{In, At, tally, either}
+use Rattle.laws.specs.Lists.{In, At, tally}
 use Rattle.laws.specs.Net.{Body, query, answer, prepare, vote, granted, refused, Message, Net, ◌⊑◌, Drafted, has_closed, ballots, is_ballot, pending_of}
 use Rattle.laws.specs.Words.{Event}
 use Rattle.laws.specs.History.{placed_in, begun_in, placed_before_in, origin_in, drafts_in, number_in, place_in, from_one, Within, Outside}
@@ -53,7 +54,7 @@ ClosingAwaits net h v = (i : ℕ) → (v.records i).phase ≡ Closing → Awaite
 pub record FindsRoom (net : Net) (h : List Event) (v : Visible) : Type 0 where
   pub never_over : (k : ℕ) → length (v.book k) ≤ net.depth
   pub at_outcome : (m : Message) (n : ℕ) (ls : List Draft) (k : ℕ) → In m v.air → m.body ≡ granted n ls → Drafted ls k → length (v.book k) < net.depth
-  pub at_grant : (p : ℕ) (m : Message) (named : Option Objection) (k : ℕ) → At v.air p m → m.body ≡ vote named → (v.records m.tx).awaited ≡ 1 → either (v.records m.tx).named named ≡ None → Drafted (v.records m.tx).drafts k → length (v.book k) < net.depth
+  pub at_grant : (p : ℕ) (m : Message) (named : Option Objection) (k : ℕ) → At v.air p m → m.body ≡ vote named → (v.records m.tx).awaited ≡ 1 → option_or (v.records m.tx).named named ≡ None → Drafted (v.records m.tx).drafts k → length (v.book k) < net.depth
   pub one_line : (m : Message) (n : ℕ) (ls : List Draft) (k : ℕ) → In m v.air → m.body ≡ granted n ls → tally (λ d. nat_eq d.key k) ls ≤ 1
   pub one_draft : (i k : ℕ) → tally (λ d. nat_eq d.key k) (v.records i).drafts ≤ 1
 
