@@ -5,7 +5,6 @@ use Rattle.clocks.specs.declared.Version.{Version}
 use Rattle.messages.specs.declared.Draft.{Draft}
 use Rattle.tables.specs.declared.Phase.TheVariants.{Open, Waiting, Closing, Granted, Refused, Dropped}
 use Rattle.messages.specs.declared.Objection.{Objection}
-use Rattle.laws.proofs.Conflicts.{none-some}
 use Rattle.laws.specs.Lists.{put, In, tally}
 use Rattle.laws.specs.Net.{Record, Body, query, answer, prepare, vote, refused, Message, Net, Drafted, has_closed}
 use Rattle.laws.proofs.Model.{State, on}
@@ -65,7 +64,7 @@ closes_empty_keeps net s i v o = amend_open net s i (voting Granted 0 None (s.vi
   answered = refl;
   going = differ Granted Closing refl refl;
   unrefused = differ Granted Refused refl refl;
-  unnamed = λ k t n. none-some refl n;
+  unnamed = λ k t n. cc n;
 })
 
 -- a transaction that is not waiting has nothing of a read in the air
@@ -106,11 +105,11 @@ begins_keeps net s t v =
       votes = votes_put net rs i r s.vis.held s.vis.air (differ Dropped Closing refl o) (differ Dropped Refused refl o) (λ c. absurd (differ Open Closing refl refl c)) v.votes;
       reads = reads-put net s.placed rs i r s.vis.air s.readings (differ Dropped Waiting refl o) (λ q. absurd (both_ways _ (ap (λ (x : Record). x.answered) e) q)) v.reads;
       outcomes = v.outcomes;
-      refusals = refusals_put net s.placed rs i r s.vis.book s.vis.air same (λ k t n. absurd (none-some refl n)) (λ q. absurd (differ Open Refused refl refl q)) v.refusals;
+      refusals = refusals_put net s.placed rs i r s.vis.book s.vis.air same (λ k t n. absurd (cc n)) (λ q. absurd (differ Open Refused refl refl q)) v.refusals;
     }
 
 pub no_answer : {k : ℕ} {f : Bool} {b : Body} {k' : ℕ} {v : Option Version} → b ≡ query k f → b ≡ answer k' v → ⊥
-no_answer p q = let z : ◌≡◌ {A = ℕ} 0 1 = cc in omega arith
+no_answer p q = cc
 
 pub asks_keeps : (net : Net) (s : State) (i k : ℕ) → Invariant net s → (s.vis.records i).phase ≡ Open → Invariant net (on s (asked net s.vis i k))
 asks_keeps net s i k v o =
@@ -207,7 +206,7 @@ pub each-prepare : (net : Net) (i : ℕ) (r : Record) (n : ℕ) (Q : Message →
 each-prepare net i r n Q f x h = let p = in_prepares net i r n x h in subst Q (sym p.1) (f p.0)
 
 pub no_vote : {ls : List Draft} {n : Option Objection} {b : Body} → b ≡ prepare ls → b ≡ vote n → ⊥
-no_vote p q = let z : ◌≡◌ {A = ℕ} 0 1 = cc in omega arith
+no_vote p q = cc
 
 closes_votes : (net : Net) (s : State) (i : ℕ) → Invariant net s → (s.vis.records i).phase ≡ Open →
     let ms = prepares net i (s.vis.records i) net.towers in
@@ -278,5 +277,5 @@ closes_keeps net s i v o =
       outcomes = outcomes_sent net s.placed s.vis.clocks s.vis.air ms (each-prepare net i old net.towers (λ m. is_granted m.body ≡ false) (λ t. refl)) v.outcomes;
       refusals = refusals_sent net s.placed rs s.vis.book s.vis.air ms
           (λ m k h e. absurd (each-prepare net i old net.towers (λ m. m.body ≡ vote (Some k) → ⊥) (λ t q. no_vote refl q) m h e))
-          (refusals_put net s.placed s.vis.records i r s.vis.book s.vis.air same (λ k _ n. absurd (none-some refl n)) (λ q. absurd (differ Closing Refused refl refl q)) v.refusals);
+          (refusals_put net s.placed s.vis.records i r s.vis.book s.vis.air same (λ k _ n. absurd (cc n)) (λ q. absurd (differ Closing Refused refl refl q)) v.refusals);
     }

@@ -19,7 +19,6 @@ use Rattle.laws.specs.State.{Visible, amended, holding}
 use Rattle.laws.specs.Faults.{first_fault}
 use Rattle.laws.specs.Rules.{Run, begun_at, asked, closed, replied, received, voted, counted, granting, refusing, took, released, objection, Rule, Step, fails, obeys, begins, reads_own, asks, drafts, drops, closes_empty, closes, replies, receives, agrees, objects, counts, grants, refuses, takes_in, releases}
 use Rattle.laws.specs.Further.{SameAnswer, AnswersDetermined}
-use Rattle.laws.proofs.Conflicts.{none-some}
 use Rattle.laws.proofs.Answering.{obeyed}
 
 pub at_nth : (xs : List Message) (p : ℕ) (m : Message) → At xs p m → slice_get xs p ≡ Some m
@@ -109,8 +108,8 @@ module _ (net : Net) (v : Visible) where
   determined (fails f p e) (fails g q d) =
       let s : f ≡ g = cc (p, q) in
       record { told = ap Err s; state = e ∙ sym d }
-  determined (fails f p e) (obeys q y) = absurd (none-some q p)
-  determined (obeys p x) (fails g q d) = absurd (none-some p q)
+  determined (fails f p e) (obeys q y) = absurd (cc (q, p))
+  determined (obeys p x) (fails g q d) = absurd (cc (p, q))
   determined (obeys p x) (obeys q y) = same_effect (rule_effect x ∙ sym (rule_effect y))
 
 pub answers_determined : AnswersDetermined

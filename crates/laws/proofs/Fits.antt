@@ -10,7 +10,7 @@ use Rattle.tables.specs.declared.Told.{Told}
 use Rattle.tables.specs.declared.Phase.TheVariants.{Open, Waiting, Closing, Granted, Refused, Dropped}
 use Rattle.messages.specs.declared.Objection.{Objection}
 use Rattle.clocks.specs.declared.Content.{Content}
-use Rattle.laws.proofs.Conflicts.{none-some, option_or_cases, first_is, lines-found}
+use Rattle.laws.proofs.Conflicts.{option_or_cases, first_is, lines-found}
 use Rattle.messages.specs.declared.Conflict.{Conflict}
 use Rattle.messages.specs.declared.Conflict.TheVariants.{Held as HeldBy, Newer, Full}
 use Rattle.tables.specs.declared.Held.{Held}
@@ -122,18 +122,18 @@ module _ (net : Net) (ok : Content → Bool) where
   ]
     where
       by_held : (o : Option Held) → find (another_holds i k) hs ≡ o → held_conflict o ≡ Some c → FitConflict net c
-      by_held None q e = absurd (none-some refl e)
+      by_held None q e = absurd (cc e)
       by_held (Some h) q e =
           let z : HeldBy h.origin h.tx ≡ c = cc e in
           let x = g h (first_is (another_holds i k) hs h q).0 in
           subst (FitConflict net) z (x.origin, x.tx)
 
       by_newer : (o : Option Version) → newest xs ≡ o → newer_conflict b o ≡ Some c → FitConflict net c
-      by_newer None q e = absurd (none-some refl e)
+      by_newer None q e = absurd (cc e)
       by_newer (Some x) q e = go (inside b x) e
         where
           go : (t : Bool) → cond t None (Some (Newer x.origin x.writer x.number)) ≡ Some c → FitConflict net c
-          go true e = absurd (none-some refl e)
+          go true e = absurd (cc e)
           go false e =
               let z : Newer x.origin x.writer x.number ≡ c = cc e in
               let y = f x (last_is (λ _. true) xs x q).0 in
@@ -141,7 +141,7 @@ module _ (net : Net) (ok : Content → Bool) where
 
       by_full : (t : Bool) → cond t (Some Full) None ≡ Some c → FitConflict net c
       by_full true e = let z : Full ≡ c = cc e in subst (FitConflict net) z tt
-      by_full false e = absurd (none-some refl e)
+      by_full false e = absurd (cc e)
 
   option_or_fit : (a b : Option Objection) → FitNamed net a → FitNamed net b → FitNamed net (option_or a b)
   option_or_fit (Some k) b f g = f

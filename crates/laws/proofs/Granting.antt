@@ -7,7 +7,7 @@ use Rattle.messages.specs.declared.Draft.{Draft}
 use Rattle.tables.specs.declared.Held.{Held}
 use Rattle.tables.specs.declared.Phase.TheVariants.{Waiting, Closing, Granted, Refused, Dropped}
 use Rattle.messages.specs.declared.Objection.{Objection}
-use Rattle.laws.proofs.Conflicts.{none-some, option_or_parts, says_map}
+use Rattle.laws.proofs.Conflicts.{option_or_parts, says_map}
 use Rattle.laws.specs.State.{granted_record, placement}
 use Rattle.laws.specs.Lists.{put, In, At, without}
 use Rattle.laws.specs.Net.{Clock, Record, vote, granted, refused, Message, Placement, Net, ◌⊑◌, Drafted, has_closed}
@@ -286,6 +286,6 @@ grants_keeps net s p m named v ripe e one q =
           (refusals_full net (T ∷ P) rs s.vis.book (added net s.vis.book o T) rest
           (added_full net (intents rs) (T ∷ P) cs s.vis.book s.vis.held o T numbered once (inl refl) refl holders)
           (refusals_new P T n net rs s.vis.book rest v.order.numbered bounds
-          (refusals_put net P s.vis.records i r s.vis.book rest same (λ k _ x. absurd (none-some refl x)) (λ x. absurd (differ Granted Refused refl refl x))
+          (refusals_put net P s.vis.records i r s.vis.book rest same (λ k _ x. absurd (cc x)) (λ x. absurd (differ Granted Refused refl refl x))
           (refusals_landed net P s.vis.records s.vis.book s.vis.air p v.refusals))));
     }

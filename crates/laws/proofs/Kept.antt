@@ -7,7 +7,7 @@ use Rattle.tables.specs.declared.Held.{Held}
 use Rattle.tables.specs.declared.Call.{Call}
 use Rattle.tables.specs.declared.Told.{Told}
 use Rattle.tables.specs.declared.Phase.TheVariants.{Open, Waiting, Closing, Granted, Refused, Dropped}
-use Rattle.laws.proofs.Conflicts.{Conflicts, taken_by, unopposed, none-some}
+use Rattle.laws.proofs.Conflicts.{Conflicts, taken_by, unopposed}
 use Rattle.laws.specs.Lists.{put, In, At, without, tally}
 use Rattle.laws.specs.Net.{Clock, Record, Body, query, answer, prepare, vote, granted, refused, Message, Placement, Net, Drafted, newest_within, has_closed, is_ballot}
 use Rattle.laws.specs.Words.{opened, in_phase, drafting, reading_at, voting, placed_as, message, redrafted, unless_none, holds_of, homed, freed, prepares, prepare_to, grants_to, refusals_to, Event}
@@ -335,13 +335,13 @@ held-once net h v r =
 
 -- what is not placed has no number, and what is placed has its own
 place_in : (i n : ℕ) (is : List ℕ) → place_of i is ≡ Some n → In i is
-place_in i n [] e = absurd (none-some refl e)
+place_in i n [] e = absurd (cc e)
 place_in i n (j ∷ is) e = elim (cases_eq j i) [ inl q ↦ inl (sym q) | inr q ↦ inr (place_in i n is (rw (ne_eqb j i q) at e)) ]
 
 number-none : (h : List Event) (i : ℕ) (is : List ℕ) → place_of i is ≡ None → number_of h i is ≡ None
 number-none h i [] e = refl
 number-none h i (j ∷ is) e = elim (cases_eq j i) [
-  | inl q ↦ absurd (none-some (rw (eq-eqb j i q) at e) refl)
+  | inl q ↦ absurd (cc (rw (eq-eqb j i q) at e))
   | inr q ↦ rw (ne_eqb j i q) (number-none h i is (rw (ne_eqb j i q) at e))
 ]
 

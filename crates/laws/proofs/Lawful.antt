@@ -53,7 +53,7 @@ module _ (h : List Event) where
       go ih (inr q) (inr g) = rw (ne_eqb _ _ q) (ih g)
 
   number-back : (P : List Placement) (i n : ℕ) → ToldOf P → Numbered P → number_of h i (txs P) ≡ Some n → (E : Placement) × In E P × (E.tx ≡ i) × (E.number ≡ n)
-  number-back [] i n t m e = let z : ◌≡◌ {A = ℕ} 0 1 = cc in absurd (omega arith)
+  number-back [] i n t m e = absurd cc
   number-back (T ∷ P) i n t m e = go (number-back P i n (λ E g. t E (inr g)) m.1) (cases_eq T.tx i) e
     where
       go : (number_of h i (txs P) ≡ Some n → (E : Placement) × In E P × (E.tx ≡ i) × (E.number ≡ n)) → (T.tx ≡ i) ⊎ (T.tx ≡ i → ⊥) →

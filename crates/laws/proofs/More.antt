@@ -284,7 +284,7 @@ rule_more net {s} v g (asks i k o _ n e) = subst (λ (w : Visible). More net (on
       ready = ready_put s.vis.records i r g.ready (λ c. absurd (differ Waiting Closing refl refl c));
       tidy = tidy_put s.vis.records i r g.tidy (g.tidy i);
       roomy = g.roomy;
-      growing = growing_sent (put s.vis.records i r) s.vis.air (q ∷ []) (growing_dumb (put s.vis.records i r) (q ∷ []) (only Dumb q (λ j w b. let z : ◌≡◌ {A = ℕ} 0 1 = cc b in omega (arith, z)))) (growing_put s.vis.records i r s.vis.air refl g.growing);
+      growing = growing_sent (put s.vis.records i r) s.vis.air (q ∷ []) (growing_dumb (put s.vis.records i r) (q ∷ []) (only Dumb q (λ j w b. cc b))) (growing_put s.vis.records i r s.vis.air refl g.growing);
       owed = owed_sent net s.placed s.vis.clocks s.vis.air (q ∷ []) (only (λ x. is_granted x.body ≡ false) q refl) g.owed;
     })
 rule_more net {s} v g (drafts i k w o _ _ e) = subst (λ (w : Visible). More net (on s w)) (sym e) (amend_more net s i (drafting (redrafted k w (s.vis.records i).drafts) (s.vis.records i)) g (λ c. absurd (differ Open Closing refl o c)) (λ j. redraft_tidy k w j (s.vis.records i).drafts (g.tidy i)) refl)
@@ -348,7 +348,7 @@ rule_more net {s} v g (refuses p m named k r b l q e) = subst (λ (w : Visible).
       ready = ready_put s.vis.records i x g.ready (λ c. absurd (differ Refused Closing refl refl c));
       tidy = tidy_put s.vis.records i x g.tidy (g.tidy i);
       roomy = g.roomy;
-      growing = growing_sent (put s.vis.records i x) (without s.vis.air p) ms (growing_dumb (put s.vis.records i x) ms (each Dumb (λ t j w b. let z : ◌≡◌ {A = ℕ} 0 1 = cc b in omega (arith, z))))
+      growing = growing_sent (put s.vis.records i x) (without s.vis.air p) ms (growing_dumb (put s.vis.records i x) ms (each Dumb (λ t j w b. cc b)))
           (growing_put s.vis.records i x (without s.vis.air p) refl (growing_landed s.vis.records s.vis.air p g.growing));
       owed = swap_owed net s.placed s.vis.clocks s.vis.air p m ms r.there (ap is_granted b) (each (λ x. is_granted x.body ≡ false) (λ t. refl)) g.owed;
     })

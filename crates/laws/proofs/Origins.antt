@@ -16,7 +16,7 @@ use Rattle.laws.specs.State.{Visible, granted_record, placement}
 use Rattle.laws.specs.Rules.{Rule, begins, reads_own, asks, drafts, drops, closes_empty, closes, replies, receives, agrees, objects, counts, grants, refuses, takes_in, releases}
 use Rattle.laws.proofs.Model.{State, on, noting, placing, next}
 use Rattle.laws.proofs.Lists.{put_keeps, put_other, put_case, in_at, in_append, in_without, in_filter}
-use Rattle.laws.proofs.Conflicts.{none-some, option_or_cases, Evidence, opposed}
+use Rattle.laws.proofs.Conflicts.{option_or_cases, Evidence, opposed}
 use Rattle.laws.proofs.Invariant.{Invariant}
 use Rattle.laws.proofs.Frames.{differ, only}
 use Rattle.laws.proofs.Calls.{no_vote, each-prepare}
@@ -69,7 +69,7 @@ module _ (n : ℕ) (rs : ℕ → Record) (hs : List Held) (air : List Message) w
       record {
         held = λ h q. of h.origin h.tx (g.held h q);
         voted = λ m a q b o w c. of o w (g.voted m a q b o w c);
-        named = λ j a q o w e. of o w (put_case (λ j x. x.named ≡ Some a → Sound n rs a) rs n (opened t c) (λ z. absurd (none-some refl z)) (λ j _. g.named j a) j q o w e);
+        named = λ j a q o w e. of o w (put_case (λ j x. x.named ≡ Some a → Sound n rs a) rs n (opened t c) (λ z. absurd (cc z)) (λ j _. g.named j a) j q o w e);
       }
 
 holds_origin : (i o : ℕ) (ds : List Draft) (h : Held) → In h (holds_of i o ds) → (h.tx ≡ i) × (h.origin ≡ o)
@@ -127,12 +127,12 @@ module _ (net : Net) (s : State) (v : Invariant net s) (g : OriginsOf s) where
       o_sent n (put rs i r) s.vis.held s.vis.air _ (silent n (put rs i r) (message i (rs i).origin (net.home k) (rs i).bound (query k (not (rs i).answered))) refl) (amend i r refl (g.named i)))
   rule_origins (drafts i k x o _ _ e) = subst (λ (w : Visible). OriginsOf (on s w)) (sym e) (amend i (drafting (redrafted k x (rs i).drafts) (rs i)) refl (g.named i))
   rule_origins (drops i o e) = subst (λ (w : Visible). OriginsOf (on s w)) (sym e) (amend i (in_phase Dropped (rs i)) refl (g.named i))
-  rule_origins (closes_empty i o q e) = subst (λ (w : Visible). OriginsOf (on s w)) (sym e) (amend i (voting Granted 0 None (rs i)) refl (λ a z. absurd (none-some refl z)))
+  rule_origins (closes_empty i o q e) = subst (λ (w : Visible). OriginsOf (on s w)) (sym e) (amend i (voting Granted 0 None (rs i)) refl (λ a z. absurd (cc z)))
   rule_origins (closes i o q e) = subst (λ (w : Visible). OriginsOf (on s w)) (sym e) (
       let r = voting Closing (length (prepares net i (rs i) net.towers)) None (rs i) in
       o_sent n (put rs i r) s.vis.held s.vis.air (prepares net i (rs i) net.towers)
       (λ m a h b. absurd (each-prepare net i (rs i) net.towers (λ m. m.body ≡ vote (Some a) → ⊥) (λ t q. no_vote refl q) m h b))
-      (amend i r refl (λ a z. absurd (none-some refl z))))
+      (amend i r refl (λ a z. absurd (cc z))))
   rule_origins (replies p m k first r b e) = subst (λ (w : Visible). OriginsOf (on s w)) (sym e) (o_sent n rs s.vis.held (rest p) _ (silent n rs _ refl) (removed p))
   rule_origins (receives p m k shown a b e) = subst (λ (w : Visible). OriginsOf (noting s (record { tx = m.tx; key = k; shown = shown }) w)) (sym e)
       (o_put n rs s.vis.held (rest p) m.tx (reading_at m.bound (rs m.tx)) refl (g.named m.tx) (removed p))
@@ -144,7 +144,7 @@ module _ (net : Net) (s : State) (v : Invariant net s) (g : OriginsOf s) where
         | inr z ↦ (let w = holds_origin m.tx m.from lines h z in subst (λ (o : ℕ). Of n rs o h.tx) (sym w.1) (subst (Of n rs m.from) (sym w.0) at))
       ] in
       o_held n rs s.vis.held (rest p ++ y ∷ []) _ tray
-      (o_sent n rs s.vis.held (rest p) (y ∷ []) (λ x a h. only (λ x. x.body ≡ vote (Some a) → Sound n rs a) y (λ z. let w : ◌≡◌ {A = Option Objection} None (Some a) = cc z in absurd (none-some refl w)) x h) (removed p)))
+      (o_sent n rs s.vis.held (rest p) (y ∷ []) (λ x a h. only (λ x. x.body ≡ vote (Some a) → Sound n rs a) y (λ z. let w : ◌≡◌ {A = Option Objection} None (Some a) = cc z in absurd (cc w)) x h) (removed p)))
   rule_origins (objects p m lines k r b q e) = subst (λ (w : Visible). OriginsOf (on s w)) (sym e) (
       let y = message m.tx m.to m.from m.bound (vote (Some k)) in
       o_sent n rs s.vis.held (rest p) (y ∷ []) (λ x a h. only (λ x. x.body ≡ vote (Some a) → Sound n rs a) y (λ z. let w : k ≡ a = cc z in subst (Sound n rs) w (objected m k (opposed net s.vis m lines k q).1)) x h) (removed p))
@@ -156,7 +156,7 @@ module _ (net : Net) (s : State) (v : Invariant net s) (g : OriginsOf s) where
       let ms = grants_to net (placement s.vis i) net.towers in
       o_sent n (put rs i w) (freed net i (rs i).origin s.vis.held) (rest p) ms
       (λ x a h z. absurd (each_grant net (placement s.vis i) net.towers (λ x. x.body ≡ vote (Some a) → ⊥) (λ t z. both_ways false refl (ap is_ballot z)) x h z))
-      (o_freed n (put rs i w) s.vis.held (rest p) net i (rs i).origin (o_put n rs s.vis.held (rest p) i w refl (λ a z. absurd (none-some refl z)) (removed p))))
+      (o_freed n (put rs i w) s.vis.held (rest p) net i (rs i).origin (o_put n rs s.vis.held (rest p) i w refl (λ a z. absurd (cc z)) (removed p))))
   rule_origins (refuses p m named k r b l q e) = subst (λ (w : Visible). OriginsOf (on s w)) (sym e) (
       let i = m.tx in
       let w = voting Refused 0 (Some k) (rs i) in

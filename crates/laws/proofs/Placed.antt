@@ -236,7 +236,7 @@ newest-covers (T ∷ P) c b k o cl n E h d s = go (newest_cases c T k) h (newest
 
 -- who wrote the newest of a book
 pub newest_by : (P : List Placement) (c : Clock) (k : ℕ) (v : Version) → newest (taken c P k) ≡ Some v → (E : Placement) × In E P × Drafted E.drafts k × By E v
-newest_by [] c k v q = let z : ◌≡◌ {A = ℕ} 0 1 = cc in absurd (omega arith)
+newest_by [] c k v q = absurd cc
 newest_by (T ∷ P) c k v q = go (newest_cases c T k) (newest_by P c k v)
   where
     go : (Drafted T.drafts k × Seen T c) ⊎ (Drafted T.drafts k → Seen T c → ⊥) → (newest (taken c P k) ≡ Some v → (E : Placement) × In E P × Drafted E.drafts k × By E v) → (E : Placement) × In E (T ∷ P) × Drafted E.drafts k × By E v

@@ -26,7 +26,7 @@ other-read air p m a b l x h c e =
     none_left (λ x. eqb x.tx m.tx && is_read x.body) air p m a (and_from _ _ (eq-eqb m.tx m.tx refl) b) l x h (and_from _ _ (eq-eqb _ _ (sym e)) c)
 
 no_query : {k : ℕ} {f : Bool} {b : Body} {k' : ℕ} {v : Option Version} → b ≡ answer k' v → b ≡ query k f → ⊥
-no_query p q = let z : ◌≡◌ {A = ℕ} 0 1 = cc in omega arith
+no_query p q = cc
 
 pub replies_keeps : (net : Net) (s : State) (p : ℕ) (m : Message) (k : ℕ) (first : Bool) → Invariant net s → Ripe net s.vis p m → m.body ≡ query k first → Invariant net (on s (replied net s.vis p m k first))
 replies_keeps net s p m k first v ripe e =

@@ -12,21 +12,21 @@ use Rattle.laws.proofs.Lists.{last-append}
 use Rattle.laws.proofs.Placed.{number-new}
 
 pub last_is : {A : Type 0} (q : A → Bool) (xs : List A) (v : A) → last_of q xs ≡ Some v → In v xs × (q v ≡ true)
-last_is q [] v e = let z : ◌≡◌ {A = ℕ} 0 1 = cc in absurd (omega arith)
+last_is q [] v e = absurd cc
 last_is q (x ∷ xs) v e = go (last_of q xs) refl (q x) refl (last_is q xs v) e
   where
     go : (o : Option _) → last_of q xs ≡ o → (b : Bool) → q x ≡ b → (last_of q xs ≡ Some v → In v xs × (q v ≡ true)) → option_or o (cond b (Some x) None) ≡ Some v → In v (x ∷ xs) × (q v ≡ true)
     go (Some w) p b t ih f = let r = ih (p ∙ f) in (inr r.0, r.1)
     go None p true t ih f = let g : x ≡ v = cc f in (inl (sym g), sym (ap q g) ∙ t)
-    go None p false t ih f = let z : ◌≡◌ {A = ℕ} 0 1 = cc f in absurd (omega (arith, z))
+    go None p false t ih f = absurd (cc f)
 
 last_none : {A : Type 0} (q : A → Bool) (xs : List A) → last_of q xs ≡ None → (v : A) → In v xs → q v ≡ false
 last_none q [] e v h = absurd h
 last_none q (x ∷ xs) e v h = go (last_of q xs) refl (q x) refl (last_none q xs) e h
   where
     go : (o : Option _) → last_of q xs ≡ o → (b : Bool) → q x ≡ b → (last_of q xs ≡ None → (v : _) → In v xs → q v ≡ false) → option_or o (cond b (Some x) None) ≡ None → In v (x ∷ xs) → q v ≡ false
-    go (Some w) p b t ih f h = let z : ◌≡◌ {A = ℕ} 0 1 = cc f in absurd (omega (arith, z))
-    go None p true t ih f h = let z : ◌≡◌ {A = ℕ} 0 1 = cc f in absurd (omega (arith, z))
+    go (Some w) p b t ih f h = absurd (cc f)
+    go None p true t ih f h = absurd (cc f)
     go None p false t ih f (inl g) = ap q g ∙ t
     go None p false t ih f (inr g) = ih p v g
 

@@ -3,7 +3,7 @@ use Rattle.std.proofs.Common.{◌≡◌, ℕ, true, false, ◌⊎◌, List, [], 
 use Rattle.std.proofs.lemmas.Bool.{cases_eq, cases_Bool, both_ways, leb-true, leb-false}
 use Rattle.tables.specs.declared.Phase.TheVariants.{Closing, Refused, Dropped}
 use Rattle.messages.specs.declared.Objection.{Objection}
-use Rattle.laws.proofs.Conflicts.{unopposed, opposed, says_map, none-some}
+use Rattle.laws.proofs.Conflicts.{unopposed, opposed, says_map}
 use Rattle.laws.proofs.Origins.{Sound, OriginsOf, rule_origins}
 use Rattle.laws.specs.Lists.{In}
 use Rattle.laws.specs.Net.{Record, Placement, Net, Drafted, has_closed}
@@ -87,7 +87,7 @@ run_holds net start = new_holds net
 run_holds net (then {s = s} r x) = by_step net (Invariant net) s (run_holds net r) (λ _. rule_keeps net (run_holds net r)) x
 
 pub run_origins : (net : Net) {h : List Event} {s : State} → Logged net h s → OriginsOf s
-run_origins net start = record { held = λ h q. absurd q; voted = λ m a q. absurd q; named = λ i a q. absurd (none-some refl q) }
+run_origins net start = record { held = λ h q. absurd q; voted = λ m a q. absurd q; named = λ i a q. absurd (cc q) }
 run_origins net (then {s = s} r x) = by_step net OriginsOf s (run_origins net r) (λ _. rule_origins net s (run_holds net r) (run_origins net r)) x
 
 -- ## The facts

@@ -160,7 +160,7 @@ agrees_keeps net s p m lines v ripe e none =
       reads = reads-sent net P rs rest s.readings (q ∷ []) (only (λ x. is_read x.body ≡ false) q refl) (reads_landed net P rs s.vis.air s.readings p m a v.reads);
       outcomes = outcomes_sent net P s.vis.clocks rest (q ∷ []) (only (λ x. is_granted x.body ≡ false) q refl) (outcomes_landed net P s.vis.clocks s.vis.air p m a (ap is_granted e) v.outcomes);
       refusals = refusals_sent net P rs s.vis.book rest (q ∷ [])
-          (λ x j. only (λ x. x.body ≡ vote (Some j) → Justified net (intents rs) P s.vis.book x.tx j) q (λ e. let z : ◌≡◌ {A = ℕ} 0 1 = cc in absurd (omega arith)) x)
+          (λ x j. only (λ x. x.body ≡ vote (Some j) → Justified net (intents rs) P s.vis.book x.tx j) q (λ e. absurd cc) x)
           (refusals_landed net P rs s.vis.book s.vis.air p v.refusals);
     }
 
@@ -235,7 +235,7 @@ objects_keeps net s p m lines k v ripe e d x =
             asker = λ ls c. absurd (no_vote c refl);
             asked = λ _ _. b.asker lines e;
             lines = λ ls c. absurd (no_vote c refl);
-            holds = λ c k d o. let z : ◌≡◌ {A = ℕ} 0 1 = cc c in absurd (omega (arith, z));
+            holds = λ c k d o. absurd (cc c);
           })
           v.votes;
       reads = reads-sent net P rs rest s.readings (q ∷ []) (only (λ x. is_read x.body ≡ false) q refl) (reads_landed net P rs s.vis.air s.readings p m a v.reads);
