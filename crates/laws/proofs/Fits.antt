@@ -21,7 +21,8 @@ use Rattle.laws.specs.State.{granted_record, Visible}
 use Rattle.laws.specs.Rules.{Rule, Step, Run, start, then, fails, obeys, begins, reads_own, asks, drafts, drops, closes_empty, closes, replies, receives, agrees, objects, counts, grants, refuses, takes_in, releases}
 use Rattle.laws.specs.Frames.{FitClock, FitVersion, FitLines, FitShown, FitNamed, FitBody, Fit, FitRecord, FitHeld, FitConflict, InRange, CallOk, CallsOk, NumbersInRange}
 use Rattle.laws.specs.Further.{Always}
-use Rattle.laws.proofs.Lists.{put_same, put_case, put_all, in_at, in_append, in_without, in_filter}
+use Rattle.laws.proofs.Lists.{put_same, put_case, put_all, in_at, in_append, in_without, in_filter, each_append, each_without}
+use Rattle.laws.proofs.Sent.{in_grants, in_prepares, in_refusals}
 use Rattle.laws.proofs.Frames.{only, differ}
 use Rattle.laws.proofs.Shown.{last_is}
 use Rattle.laws.proofs.Few.{run_small, run-opened}
@@ -104,9 +105,6 @@ module _ (net : Net) (ok : Content → Bool) where
   holds_fit i o (d ∷ ds) a b f x (inl e) = subst (FitHeld net) (sym e) (record { key = (f d (inl refl)).0; tx = a; origin = b })
   holds_fit i o (d ∷ ds) a b f x (inr h) = holds_fit i o ds a b (λ y q. f y (inr q)) x h
 
-  tray_more : (hs gs : List Held) → Tray hs → Tray gs → Tray (hs ++ gs)
-  tray_more hs gs g f x h = elim (in_append x hs gs h) [ inl h ↦ g x h | inr h ↦ f x h ]
-
   tray_freed : (i t : ℕ) (hs : List Held) → Tray hs → Tray (freed net i t hs)
   tray_freed i t hs g x h = g x (in_filter (λ h. not (eqb h.tx i && eqb (net.home h.key) t)) hs x h).0
 
@@ -152,40 +150,26 @@ module _ (net : Net) (ok : Content → Bool) where
   abbrev Mail : List Message → Type 0
   Mail air = (m : Message) → In m air → Fit net ok m
 
-  mail_sent : (air ms : List Message) → Mail air → Mail ms → Mail (air ++ ms)
-  mail_sent air ms g f m h = elim (in_append m air ms h) [ inl h ↦ g m h | inr h ↦ f m h ]
-
-  mail_landed : (air : List Message) (p : ℕ) → Mail air → Mail (without air p)
-  mail_landed air p g m h = g m (in_without air p m h)
-
-  mail_maybe : (ds : List Draft) (m : Message) → (1 ≤ length ds → Fit net ok m) → Mail (unless_none ds m)
-  mail_maybe [] m g x h = absurd h
-  mail_maybe (d ∷ ds) m g x h = only (Fit net ok) m (g (omega arith)) x h
-
-  mail_unless : (b : Bool) (ms : List Message) → Mail ms → Mail (cond b [] ms)
-  mail_unless true ms g x h = absurd h
-  mail_unless false ms g x h = g x h
-
   mail_prepares : (i : ℕ) (r : Record) (n : ℕ) → i < net.transactions → FitRecord net ok r → n ≤ net.towers → Mail (prepares net i r n)
-  mail_prepares i r zero o g l = λ x h. absurd h
-  mail_prepares i r (suc t) o g l = mail_sent (prepares net i r t) (unless_none (homed net t r.drafts) (prepare_to net i r t)) (mail_prepares i r t o g (omega arith))
-      (mail_maybe (homed net t r.drafts) (prepare_to net i r t) (λ s. record { tx = o; from = g.origin; to = omega arith; bound = g.bound; body = (homed_fit t r.drafts g.drafts, s) }))
+  mail_prepares i r n o g l x h =
+      let p = in_prepares net i r n x h in
+      subst (Fit net ok) (sym p.3) (record { tx = o; from = g.origin; to = omega (arith, p.1, l); bound = g.bound; body = (homed_fit p.0 r.drafts g.drafts, p.2) })
 
   mail_grants : (T : Placement) (n : ℕ) → T.tx < net.transactions → T.origin < net.towers → FitClock net T.bound → 1 ≤ T.number → T.number ≤ net.transactions → FitLines net ok T.drafts → n ≤ net.towers → Mail (grants_to net T n)
-  mail_grants T zero a b c d e f l = λ x h. absurd h
-  mail_grants T (suc t) a b c d e f l = mail_sent (grants_to net T t) (cond (eqb t T.origin) [] (granted_to net T t ∷ [])) (mail_grants T t a b c d e f (omega arith))
-      (mail_unless (eqb t T.origin) (granted_to net T t ∷ []) (only (Fit net ok) (granted_to net T t) (record { tx = a; from = b; to = omega arith; bound = c; body = (d, e, homed_fit t T.drafts f) })))
+  mail_grants T n a b c d e f l x h =
+      let p = in_grants net T n x h in
+      subst (Fit net ok) (sym p.3) (record { tx = a; from = b; to = omega (arith, p.1, l); bound = c; body = (d, e, homed_fit p.0 T.drafts f) })
 
   mail_refusals : (i : ℕ) (r : Record) (n : ℕ) → i < net.transactions → FitRecord net ok r → n ≤ net.towers → Mail (refusals_to net i r n)
-  mail_refusals i r zero o g l = λ x h. absurd h
-  mail_refusals i r (suc t) o g l = mail_sent (refusals_to net i r t) (cond (eqb t r.origin) [] (unless_none (homed net t r.drafts) (refused_to net i r t))) (mail_refusals i r t o g (omega arith))
-      (mail_unless (eqb t r.origin) (unless_none (homed net t r.drafts) (refused_to net i r t)) (mail_maybe (homed net t r.drafts) (refused_to net i r t) (λ _. record { tx = o; from = g.origin; to = omega arith; bound = g.bound; body = tt })))
+  mail_refusals i r n o g l x h =
+      let p = in_refusals net i r n x h in
+      subst (Fit net ok) (sym p.2) (record { tx = o; from = g.origin; to = omega (arith, p.1, l); bound = g.bound; body = tt })
 
   -- a message that lands is answered by one that goes back
   answered_by : (air : List Message) (p : ℕ) (m : Message) (c : Clock) (b : Body) → Mail air → At air p m → FitClock net c → FitBody net ok b → Mail (without air p ++ message m.tx m.to m.from c b ∷ [])
   answered_by air p m c b g a f e =
       let h = g m (in_at air p m a) in
-      mail_sent (without air p) _ (mail_landed air p g) (only (Fit net ok) (message m.tx m.to m.from c b) (record { tx = h.tx; from = h.to; to = h.from; bound = f; body = e }))
+      each_append (Fit net ok) (without air p) _ (each_without (Fit net ok) air p g) (only (Fit net ok) (message m.tx m.to m.from c b) (record { tx = h.tx; from = h.to; to = h.from; bound = f; body = e }))
 
   records-put : (rs : ℕ → Record) (i : ℕ) (r : Record) → ((i : ℕ) → FitRecord net ok (rs i)) → FitRecord net ok r → (j : ℕ) → FitRecord net ok (put rs i r j)
   records-put rs i r g f = put_all (FitRecord net ok) rs i r f g
@@ -211,7 +195,7 @@ module _ (net : Net) (ok : Content → Bool) where
         records = records-put v.records i (in_phase Waiting (v.records i)) g.records (record { origin = r.origin; bound = r.bound; drafts = r.drafts; named = r.named });
         book = g.book;
         held = g.held;
-        air = mail_sent v.air _ g.air (only (Fit net ok) (message i (v.records i).origin (net.home k) (v.records i).bound (query k (not (v.records i).answered))) (record { tx = b; from = r.origin; to = net.housed k; bound = r.bound; body = l }));
+        air = each_append (Fit net ok) v.air _ g.air (only (Fit net ok) (message i (v.records i).origin (net.home k) (v.records i).bound (query k (not (v.records i).answered))) (record { tx = b; from = r.origin; to = net.housed k; bound = r.bound; body = l }));
       })
   rule_fits {v} op sm y g (drafts i k x o a l e) = subst (InRange net ok) (sym e) (
       let r = g.records i in
@@ -253,7 +237,7 @@ module _ (net : Net) (ok : Content → Bool) where
         records = records-put v.records i (voting Closing (length ms) None (v.records i)) g.records (record { origin = r.origin; bound = r.bound; drafts = r.drafts; named = tt });
         book = g.book;
         held = g.held;
-        air = mail_sent v.air ms g.air (mail_prepares i (v.records i) net.towers b r (omega arith));
+        air = each_append (Fit net ok) v.air ms g.air (mail_prepares i (v.records i) net.towers b r (omega arith));
       })
   rule_fits {v} op sm y g (replies p m k first r b e) = subst (InRange net ok) (sym e) (
       let h = g.air m (in_at v.air p m r.there) in
@@ -276,7 +260,7 @@ module _ (net : Net) (ok : Content → Bool) where
         records = records-put v.records m.tx (reading_at m.bound (v.records m.tx)) g.records (record { origin = r.origin; bound = h.bound; drafts = r.drafts; named = r.named });
         book = g.book;
         held = g.held;
-        air = mail_landed v.air p g.air;
+        air = each_without (Fit net ok) v.air p g.air;
       })
   rule_fits {v} op sm y g (agrees p m lines r b n e) = subst (InRange net ok) (sym e) (
       let q = g.air m (in_at v.air p m r.there) in
@@ -286,7 +270,7 @@ module _ (net : Net) (ok : Content → Bool) where
         clocks = g.clocks;
         records = g.records;
         book = g.book;
-        held = tray_more v.held (holds_of m.tx m.from lines) g.held (holds_fit m.tx m.from lines q.tx q.from f.0.each);
+        held = each_append (FitHeld net) v.held (holds_of m.tx m.from lines) g.held (holds_fit m.tx m.from lines q.tx q.from f.0.each);
         air = answered_by v.air p m m.bound (vote None) g.air r.there (g.air m (in_at v.air p m r.there)).bound tt;
       })
   rule_fits {v} op sm y g (objects p m lines k r b x e) = subst (InRange net ok) (sym e) (
@@ -310,7 +294,7 @@ module _ (net : Net) (ok : Content → Bool) where
             (record { origin = x.origin; bound = x.bound; drafts = x.drafts; named = option_or_fit (v.records m.tx).named named x.named (subst (FitBody net ok) b h.body) });
         book = g.book;
         held = g.held;
-        air = mail_landed v.air p g.air;
+        air = each_without (Fit net ok) v.air p g.air;
       })
   rule_fits {v} op sm y g (grants p m named r b l q e) = subst (InRange net ok) (sym e) (
       let h = g.air m (in_at v.air p m r.there) in
@@ -328,7 +312,7 @@ module _ (net : Net) (ok : Content → Bool) where
         records = records-put v.records i w g.records (record { origin = x.origin; bound = x.bound; drafts = x.drafts; named = tt });
         book = λ k y z. elim (in_append y (v.book k) _ z) [ inl z ↦ g.book k y z | inr z ↦ written_fit i o n (homed net o (v.records i).drafts) k y h.tx x.origin (omega arith) top (homed_fit o (v.records i).drafts x.drafts).each z ];
         held = tray_freed i o v.held g.held;
-        air = mail_sent (without v.air p) _ (mail_landed v.air p g.air) (mail_grants (placed_as i w) net.towers h.tx x.origin x.bound (let z : 1 ≤ n = omega arith in z) top x.drafts (omega arith));
+        air = each_append (Fit net ok) (without v.air p) _ (each_without (Fit net ok) v.air p g.air) (mail_grants (placed_as i w) net.towers h.tx x.origin x.bound (let z : 1 ≤ n = omega arith in z) top x.drafts (omega arith));
       })
   rule_fits {v} op sm y g (refuses p m named k r b l q e) = subst (InRange net ok) (sym e) (
       let h = g.air m (in_at v.air p m r.there) in
@@ -342,7 +326,7 @@ module _ (net : Net) (ok : Content → Bool) where
         records = records-put v.records m.tx w g.records fw;
         book = g.book;
         held = tray_freed m.tx (v.records m.tx).origin v.held g.held;
-        air = mail_sent (without v.air p) _ (mail_landed v.air p g.air) (mail_refusals m.tx (v.records m.tx) net.towers h.tx x (omega arith));
+        air = each_append (Fit net ok) (without v.air p) _ (each_without (Fit net ok) v.air p g.air) (mail_refusals m.tx (v.records m.tx) net.towers h.tx x (omega arith));
       })
   rule_fits {v} op sm y g (takes_in p m n lines r b l e) = subst (InRange net ok) (sym e) (
       let h = g.air m (in_at v.air p m r.there) in
@@ -353,9 +337,9 @@ module _ (net : Net) (ok : Content → Bool) where
         records = g.records;
         book = λ k y z. elim (in_append y (v.book k) _ z) [ inl z ↦ g.book k y z | inr z ↦ written_fit m.tx m.from n lines k y h.tx h.from f.0 f.1 f.2.each z ];
         held = tray_freed m.tx m.to v.held g.held;
-        air = mail_landed v.air p g.air;
+        air = each_without (Fit net ok) v.air p g.air;
       })
-  rule_fits {v} op sm y g (releases p m a b e) = subst (InRange net ok) (sym e) (record { begun = g.begun; clocks = g.clocks; records = g.records; book = g.book; held = tray_freed m.tx m.to v.held g.held; air = mail_landed v.air p g.air })
+  rule_fits {v} op sm y g (releases p m a b e) = subst (InRange net ok) (sym e) (record { begun = g.begun; clocks = g.clocks; records = g.records; book = g.book; held = tray_freed m.tx m.to v.held g.held; air = each_without (Fit net ok) v.air p g.air })
 
   step_fits : {v v' : Visible} {c : Call} {a : Result Told Cause} → ((i : ℕ) → (v.records i).phase ≢ Dropped → i < v.begun) → ((t j : ℕ) → v'.clocks t j ≤ v'.begun) → CallOk ok c → InRange net ok v → Step net v v' c a → InRange net ok v'
   step_fits op sm y g (fails f _ e) = subst (InRange net ok) (sym e) g

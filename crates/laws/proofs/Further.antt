@@ -217,12 +217,12 @@ versions_none [] k f = refl
 versions_none (T ∷ P) k f = rw (versions_none P k (λ E q. f E (inr q)), written_none T.tx T.origin T.number T.drafts k (f T (inl refl)))
 
 shut_cases : (p : Phase) → has_closed p ≡ true → (p ≡ Closing) ⊎ (p ≡ Granted) ⊎ (p ≡ Refused)
-shut_cases Open e = absurd (both_ways false refl e)
-shut_cases Waiting e = absurd (both_ways false refl e)
+shut_cases Open e = absurd (cc e)
+shut_cases Waiting e = absurd (cc e)
 shut_cases Closing e = inl refl
 shut_cases Granted e = inr (inl refl)
 shut_cases Refused e = inr (inr refl)
-shut_cases Dropped e = absurd (both_ways false refl e)
+shut_cases Dropped e = absurd (cc e)
 
 -- a transaction that alone drafted its one key is granted, once it is closed and the air is empty
 module _ (net : Net) (h : List Event) (s : State) (v : Invariant net s) (l : Linked h s) (r : Logged net h s) (deep : net.depth ≡ 1) (empty : s.vis.air ≡ []) where

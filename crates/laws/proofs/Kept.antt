@@ -17,12 +17,12 @@ use Rattle.laws.specs.State.{granted_record, placement, Visible}
 use Rattle.laws.specs.Further.{Always, HeldOnce, RecordsAgree}
 use Rattle.laws.proofs.Model.{Logged, State, by_step, log_of, next, noting, on, placing, start, then}
 use Rattle.laws.proofs.Lists.{put_case, in_at, in_append, in_without, tally-append, tally_at, tally-none, none_left}
+use Rattle.laws.proofs.Sent.{each-prepare, each_grant, each-refusal}
 use Rattle.laws.proofs.Placed.{drafted?, number_pos}
 use Rattle.laws.proofs.Invariant.{Holds, Invariant}
 use Rattle.laws.proofs.Frames.{differ, only, no_intent, holds_freed}
-use Rattle.laws.proofs.Calls.{homed-drafted, each-prepare}
-use Rattle.laws.proofs.Voting.{holds_cases, each-refusal}
-use Rattle.laws.proofs.Granting.{each_grant}
+use Rattle.laws.proofs.Calls.{homed-drafted}
+use Rattle.laws.proofs.Voting.{holds_cases}
 use Rattle.laws.proofs.Stand.{run_holds, intent_drafted}
 use Rattle.laws.proofs.More.{drafts_of, More, run_more, filter_fewer}
 use Rattle.laws.proofs.Histories.{txs, length_txs, Linked, run_linked}
@@ -108,12 +108,12 @@ prepares-most net i r q t f (suc n) =
     go more ih (inr d) = omega (arith, more, ih.1, none (homed net n r.drafts) d)
 
 prepare_ballot : (b : Body) → is_prepare b ≡ true → is_ballot b ≡ true
-prepare_ballot (query k f) e = absurd (both_ways false refl e)
-prepare_ballot (answer k v) e = absurd (both_ways false refl e)
+prepare_ballot (query k f) e = absurd (cc e)
+prepare_ballot (answer k v) e = absurd (cc e)
 prepare_ballot (prepare ls) e = refl
 prepare_ballot (vote n) e = refl
-prepare_ballot (granted n ls) e = absurd (both_ways false refl e)
-prepare_ballot refused e = absurd (both_ways false refl e)
+prepare_ballot (granted n ls) e = absurd (cc e)
+prepare_ballot refused e = absurd (cc e)
 
 module _ (net : Net) (s : State) (i : ℕ) (v : Invariant net s) (g : Kept net s) (o : (s.vis.records i).phase ≡ Open) where
   abbrev asks_of : List Message

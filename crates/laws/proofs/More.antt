@@ -19,13 +19,13 @@ use Rattle.laws.specs.Rules.{Ripe, Rule, agrees, asks, begins, begun_at, closed,
 use Rattle.laws.specs.State.{granted_record, placement, Visible, amended}
 use Rattle.laws.specs.Words.{opened, in_phase, drafting, reading_at, voting, placed_as, message, redrafted, homed, prepares, prepare_to, granted_to, grants_to, refusals_to, Event}
 use Rattle.laws.proofs.Lists.{put_other, put_all, put_keeps, in_at, in_append, in_without, none_left}
+use Rattle.laws.proofs.Sent.{each-prepare, each_grant, each-refusal}
 use Rattle.laws.proofs.Placed.{drafted?, written_none}
 use Rattle.laws.proofs.Invariant.{Holds, Invariant, is_read}
 use Rattle.laws.proofs.Frames.{only, differ, placed-other, outcomes_landed}
-use Rattle.laws.proofs.Calls.{homed-drafted, prepares_has, each-prepare}
-use Rattle.laws.proofs.Voting.{each-refusal}
+use Rattle.laws.proofs.Calls.{homed-drafted, prepares_has}
 use Rattle.laws.proofs.TakeIn.{passed, added}
-use Rattle.laws.proofs.Granting.{grants_holds, each_grant}
+use Rattle.laws.proofs.Granting.{grants_holds}
 use Rattle.laws.proofs.Ranges.{message-begun}
 use Rattle.laws.proofs.Stand.{run_holds}
 use Rattle.laws.proofs.Owed.{Owed, owed_landed, owed_sent, took_owed, grants_owed}
@@ -153,7 +153,7 @@ no_outcome m e = elim m.body as (λ b. is_ballot b ≡ true → is_granted b ≡
   | answer k v ↦ λ _. refl
   | prepare ls ↦ λ _. refl
   | vote n ↦ λ _. refl
-  | granted n ls ↦ λ e. absurd (both_ways false refl e)
+  | granted n ls ↦ λ e. absurd (cc e)
   | refused ↦ λ _. refl
 ] e
 
@@ -227,7 +227,7 @@ grants-more net s p m named v g ripe e one q =
       ready_put s.vis.records i r g.ready (λ c. absurd (differ Granted Closing refl refl c)),
       tidy_put s.vis.records i r g.tidy (g.tidy i),
       added_roomy net s.vis.book o T (g.tidy i) (λ k d _. v.holders.room k i (all k d)) g.roomy,
-      growing_sent (put s.vis.records i r) (without s.vis.air p) ms (growing_dumb (put s.vis.records i r) ms (each_grant net T net.towers Dumb (λ t k w x. both_ways false refl (sym (ap is_granted x)))))
+      growing_sent (put s.vis.records i r) (without s.vis.air p) ms (growing_dumb (put s.vis.records i r) ms (each_grant net T net.towers Dumb (λ t k w x. cc x)))
           (growing_put s.vis.records i r (without s.vis.air p) refl (growing_landed s.vis.records s.vis.air p g.growing)),
       grants_owed net s.placed s.vis.clocks (without s.vis.air p) T (ap suc (v.clocks.own o)) refl v.order.numbered v.clocks.behind
           (λ E l. placed-other s.placed s.vis.records E i v.granteds l (differ Closing Granted refl b.closing))

@@ -16,12 +16,10 @@ use Rattle.laws.specs.State.{Visible, granted_record, placement}
 use Rattle.laws.specs.Rules.{Rule, begins, reads_own, asks, drafts, drops, closes_empty, closes, replies, receives, agrees, objects, counts, grants, refuses, takes_in, releases}
 use Rattle.laws.proofs.Model.{State, on, noting, placing, next}
 use Rattle.laws.proofs.Lists.{put_keeps, put_other, put_case, in_at, in_append, in_without, in_filter}
+use Rattle.laws.proofs.Sent.{each-prepare, each_grant, each-refusal}
 use Rattle.laws.proofs.Conflicts.{option_or_cases, Evidence, opposed}
 use Rattle.laws.proofs.Invariant.{Invariant}
 use Rattle.laws.proofs.Frames.{differ, only}
-use Rattle.laws.proofs.Calls.{no_vote, each-prepare}
-use Rattle.laws.proofs.Voting.{each-refusal}
-use Rattle.laws.proofs.Granting.{each_grant}
 
 -- w has begun, at o
 abbrev pub Of : ℕ → (ℕ → Record) → ℕ → ℕ → Type 0
@@ -131,7 +129,7 @@ module _ (net : Net) (s : State) (v : Invariant net s) (g : OriginsOf s) where
   rule_origins (closes i o q e) = subst (λ (w : Visible). OriginsOf (on s w)) (sym e) (
       let r = voting Closing (length (prepares net i (rs i) net.towers)) None (rs i) in
       o_sent n (put rs i r) s.vis.held s.vis.air (prepares net i (rs i) net.towers)
-      (λ m a h b. absurd (each-prepare net i (rs i) net.towers (λ m. m.body ≡ vote (Some a) → ⊥) (λ t q. no_vote refl q) m h b))
+      (λ m a h b. absurd (each-prepare net i (rs i) net.towers (λ m. m.body ≡ vote (Some a) → ⊥) (λ t q. cc q) m h b))
       (amend i r refl (λ a z. absurd (cc z))))
   rule_origins (replies p m k first r b e) = subst (λ (w : Visible). OriginsOf (on s w)) (sym e) (o_sent n rs s.vis.held (rest p) _ (silent n rs _ refl) (removed p))
   rule_origins (receives p m k shown a b e) = subst (λ (w : Visible). OriginsOf (noting s (record { tx = m.tx; key = k; shown = shown }) w)) (sym e)
@@ -144,7 +142,7 @@ module _ (net : Net) (s : State) (v : Invariant net s) (g : OriginsOf s) where
         | inr z ↦ (let w = holds_origin m.tx m.from lines h z in subst (λ (o : ℕ). Of n rs o h.tx) (sym w.1) (subst (Of n rs m.from) (sym w.0) at))
       ] in
       o_held n rs s.vis.held (rest p ++ y ∷ []) _ tray
-      (o_sent n rs s.vis.held (rest p) (y ∷ []) (λ x a h. only (λ x. x.body ≡ vote (Some a) → Sound n rs a) y (λ z. let w : ◌≡◌ {A = Option Objection} None (Some a) = cc z in absurd (cc w)) x h) (removed p)))
+      (o_sent n rs s.vis.held (rest p) (y ∷ []) (λ x a h. only (λ x. x.body ≡ vote (Some a) → Sound n rs a) y (λ z. absurd (cc z)) x h) (removed p)))
   rule_origins (objects p m lines k r b q e) = subst (λ (w : Visible). OriginsOf (on s w)) (sym e) (
       let y = message m.tx m.to m.from m.bound (vote (Some k)) in
       o_sent n rs s.vis.held (rest p) (y ∷ []) (λ x a h. only (λ x. x.body ≡ vote (Some a) → Sound n rs a) y (λ z. let w : k ≡ a = cc z in subst (Sound n rs) w (objected m k (opposed net s.vis m lines k q).1)) x h) (removed p))
@@ -155,14 +153,14 @@ module _ (net : Net) (s : State) (v : Invariant net s) (g : OriginsOf s) where
       let w = granted_record s.vis i in
       let ms = grants_to net (placement s.vis i) net.towers in
       o_sent n (put rs i w) (freed net i (rs i).origin s.vis.held) (rest p) ms
-      (λ x a h z. absurd (each_grant net (placement s.vis i) net.towers (λ x. x.body ≡ vote (Some a) → ⊥) (λ t z. both_ways false refl (ap is_ballot z)) x h z))
+      (λ x a h z. absurd (each_grant net (placement s.vis i) net.towers (λ x. x.body ≡ vote (Some a) → ⊥) (λ t z. cc z) x h z))
       (o_freed n (put rs i w) s.vis.held (rest p) net i (rs i).origin (o_put n rs s.vis.held (rest p) i w refl (λ a z. absurd (cc z)) (removed p))))
   rule_origins (refuses p m named k r b l q e) = subst (λ (w : Visible). OriginsOf (on s w)) (sym e) (
       let i = m.tx in
       let w = voting Refused 0 (Some k) (rs i) in
       let ms = refusals_to net i (rs i) net.towers in
       o_sent n (put rs i w) (freed net i (rs i).origin s.vis.held) (rest p) ms
-      (λ x a h z. absurd (each-refusal net i (rs i) net.towers (λ x. x.body ≡ vote (Some a) → ⊥) (λ t z. both_ways false refl (ap is_ballot z)) x h z))
+      (λ x a h z. absurd (each-refusal net i (rs i) net.towers (λ x. x.body ≡ vote (Some a) → ⊥) (λ t z. cc z) x h z))
       (o_freed n (put rs i w) s.vis.held (rest p) net i (rs i).origin
       (o_put n rs s.vis.held (rest p) i w refl (λ a z. let y : k ≡ a = cc z in subst (Sound n rs) y (kept_named m named k (in_at s.vis.air p m r.there) b q)) (removed p))))
   rule_origins (takes_in p m k lines r b l e) = subst (λ (w : Visible). OriginsOf (on s w)) (sym e) (o_freed n rs s.vis.held (rest p) net m.tx m.to (removed p))

@@ -7,11 +7,12 @@ use Rattle.laws.specs.Net.{Clock, Body, query, answer, prepare, vote, granted, r
 use Rattle.laws.proofs.Log.{count, Seen}
 use Rattle.laws.specs.Words.{granted_to, grants_to}
 use Rattle.laws.proofs.Lists.{put_same, put_other, in_append, in_without, tally-append, tally_at, tally_in, tally-none, none_left}
+use Rattle.laws.proofs.Sent.{each_away, each_grant}
 use Rattle.laws.proofs.Placed.{Numbered, new_unseen, seen_or_same}
 use Rattle.laws.proofs.Invariant.{Outcomes}
 use Rattle.laws.proofs.Frames.{only, same-tally}
 use Rattle.laws.proofs.TakeIn.{passed, Next}
-use Rattle.laws.proofs.Granting.{each_grant, grants_has}
+use Rattle.laws.proofs.Granting.{grants_has}
 
 -- a granted outcome of the transaction, to that tower
 abbrev pub outcome_of : ℕ → ℕ → Message → Bool
@@ -86,18 +87,6 @@ module _ (net : Net) (P : List Placement) (cs : ℕ → Clock) (air : List Messa
 
 -- ## One more is placed
 
--- one outcome at most goes to each tower, and none to its own
-each_away : (net : Net) (T : Placement) (n : ℕ) (Q : Message → Type 0) → ((t : ℕ) → t ≢ T.origin → Q (granted_to net T t)) → (x : Message) → In x (grants_to net T n) → Q x
-each_away net T zero Q f x h = absurd h
-each_away net T (suc t) Q f x h = elim (in_append x (grants_to net T t) _ h) [
-  | inl g ↦ each_away net T t Q f x g
-  | inr g ↦ go (cases_eq t T.origin) g
-]
-  where
-    go : (t ≡ T.origin) ⊎ (t ≡ T.origin → ⊥) → In x (cond (eqb t T.origin) [] (granted_to net T t ∷ [])) → Q x
-    go (inl e) g = absurd (rw (eq-eqb t T.origin e) at g)
-    go (inr e) g = only Q (granted_to net T t) (f t e) x (rw (ne_eqb t T.origin e) at g)
-
 grants-most : (net : Net) (T : Placement) (q : Message → Bool) (t : ℕ) → ((u : ℕ) → u ≢ t → q (granted_to net T u) ≡ false) → (n : ℕ) → (n ≤ t → tally q (grants_to net T n) ≡ 0) × (tally q (grants_to net T n) ≤ 1)
 grants-most net T q t f zero = ((λ _. refl), omega arith)
 grants-most net T q t f (suc n) =
@@ -118,12 +107,12 @@ grants-most net T q t f (suc n) =
     go more ih (inr d) = omega (arith, more, ih.1, none (eqb n T.origin) d)
 
 granted_is : (b : Body) → is_granted b ≡ true → (n : ℕ) × (ls : List Draft) × (b ≡ granted n ls)
-granted_is (query k f) e = absurd (both_ways false refl e)
-granted_is (answer k v) e = absurd (both_ways false refl e)
-granted_is (prepare ls) e = absurd (both_ways false refl e)
-granted_is (vote n) e = absurd (both_ways false refl e)
+granted_is (query k f) e = absurd (cc e)
+granted_is (answer k v) e = absurd (cc e)
+granted_is (prepare ls) e = absurd (cc e)
+granted_is (vote n) e = absurd (cc e)
 granted_is (granted n ls) e = (n, ls, refl)
-granted_is refused e = absurd (both_ways false refl e)
+granted_is refused e = absurd (cc e)
 
 module _ (net : Net) (P : List Placement) (cs : ℕ → Clock) (rest : List Message) (T : Placement) (n : T.number ≡ suc (count P T.origin)) (e : Next cs T.origin T) (m : Numbered P) (behind : (u : ℕ) → cs u ⊑ count P)
     (others : (E : Placement) → In E P → E.tx ≢ T.tx) (oc : Outcomes net P cs rest) (g : Owed net P cs rest) where

@@ -25,9 +25,6 @@ other-read : (air : List Message) (p : ℕ) (m : Message) → At air p m → is_
 other-read air p m a b l x h c e =
     none_left (λ x. eqb x.tx m.tx && is_read x.body) air p m a (and_from _ _ (eq-eqb m.tx m.tx refl) b) l x h (and_from _ _ (eq-eqb _ _ (sym e)) c)
 
-no_query : {k : ℕ} {f : Bool} {b : Body} {k' : ℕ} {v : Option Version} → b ≡ answer k' v → b ≡ query k f → ⊥
-no_query p q = cc
-
 pub replies_keeps : (net : Net) (s : State) (p : ℕ) (m : Message) (k : ℕ) (first : Bool) → Invariant net s → Ripe net s.vis p m → m.body ≡ query k first → Invariant net (on s (replied net s.vis p m k first))
 replies_keeps net s p m k first v ripe e =
     let a = ripe.there in
@@ -60,11 +57,11 @@ replies_keeps net s p m k first v ripe e =
       granteds = v.granteds;
       unbegun = v.unbegun;
       votes = votes_sent net rs s.vis.held rest (q ∷ []) (only (λ x. is_ballot x.body ≡ false) q refl)
-          (only (λ x. x.body ≡ refused → (rs x.tx).phase ≡ Refused) q (λ e. absurd (both_ways false refl (ap is_refused e))))
+          (only (λ x. x.body ≡ refused → (rs x.tx).phase ≡ Refused) q (λ e. absurd (cc e)))
           (votes_landed net rs s.vis.held s.vis.air p m a (ap is_ballot e) v.votes);
       reads = reads_more net P rs rest s.readings q (record {
         waiting = g.waiting m h rd;
-        asked = λ k' f b. absurd (no_query refl b);
+        asked = λ k' f b. absurd (cc b);
         fair = λ k' w b. fair;
         right = λ k' w b. let ek : k ≡ k' = cc in let ew : shown ≡ w = cc in sym ew ∙ right ∙ ap (λ (n : ℕ). newest_within c (versions P n)) ek;
         again = λ k' w b t.
@@ -76,7 +73,7 @@ replies_keeps net s p m k first v ripe e =
       outcomes = outcomes_sent net P s.vis.clocks rest (q ∷ []) (only (λ x. is_granted x.body ≡ false) q refl)
           (outcomes_landed net P s.vis.clocks s.vis.air p m a (ap is_granted e) v.outcomes);
       refusals = refusals_sent net P rs s.vis.book rest (q ∷ [])
-          (λ x j. only (λ x. x.body ≡ vote (Some j) → Justified net (intents rs) P s.vis.book x.tx j) q (λ e. absurd (both_ways false refl (ap is_ballot e))) x)
+          (λ x j. only (λ x. x.body ≡ vote (Some j) → Justified net (intents rs) P s.vis.book x.tx j) q (λ e. absurd (cc e)) x)
           (refusals_landed net P rs s.vis.book s.vis.air p v.refusals);
     }
 
@@ -125,6 +122,6 @@ receives_keeps net s p m k shown v a e =
         ];
       };
       outcomes = outcomes_landed net P s.vis.clocks s.vis.air p m a (ap is_granted e) v.outcomes;
-      refusals = refusals_put net P s.vis.records i r s.vis.book rest same (λ k t n. absurd (both_ways false refl t)) (λ q. absurd (differ Open Refused refl refl q))
+      refusals = refusals_put net P s.vis.records i r s.vis.book rest same (λ k t n. absurd (cc t)) (λ q. absurd (differ Open Refused refl refl q))
           (refusals_landed net P s.vis.records s.vis.book s.vis.air p v.refusals);
     }

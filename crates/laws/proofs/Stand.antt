@@ -77,7 +77,7 @@ new_holds net = record {
   outcomes = record { coming = λ E t h. absurd h; meant = λ m n ls h. absurd h };
   refusals = record {
     voted = λ m k h. absurd h;
-    named = λ i k c. absurd (both_ways false refl c);
+    named = λ i k c. absurd (cc c);
     refused = λ i c. absurd (differ Dropped Refused refl refl c);
   };
 }

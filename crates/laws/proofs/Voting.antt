@@ -19,10 +19,11 @@ use Rattle.laws.specs.Rules.{Ripe, counted, released, refusing, voted}
 use Rattle.laws.specs.State.{holding}
 use Rattle.laws.specs.Words.{voting, message, unless_none, holds_of, homed, freed, refused_to, refusals_to}
 use Rattle.laws.proofs.Lists.{put_same, put_other, put_case, in_left, in_right, in_append, in_at, in_without, in_rest, tally-append, tally_at, none_left}
+use Rattle.laws.proofs.Sent.{each-refusal}
 use Rattle.laws.proofs.Placed.{Closed, By, newest-covers, newest_by}
 use Rattle.laws.proofs.Invariant.{Intent, intent, Intents, intents, is_read, is_ballot, is_granted, polled, ballots, Holds, Holders, Ballot, Votes, Rival, Justified, Invariant}
 use Rattle.laws.proofs.Frames.{same-put, holders_same, granteds_put, bounds-put, unbegun_put, reads-put, refusals_put, votes_landed, votes_sent, votes_held, reads_landed, reads-sent, outcomes_landed, outcomes_sent, refusals_landed, refusals_sent, holds_left, holds_freed, freed_keeps, differ, only, intent_shut, placed_intent, placed-once, placed-other}
-use Rattle.laws.proofs.Calls.{no_vote, homed-drafted, drafted-homed}
+use Rattle.laws.proofs.Calls.{homed-drafted, drafted-homed}
 
 -- ## What is held for the lines
 
@@ -151,9 +152,9 @@ agrees_keeps net s p m lines v ripe e none =
           (record {
             closing = b.closing;
             bound = b.bound;
-            asker = λ ls c. absurd (no_vote c refl);
+            asker = λ ls c. absurd (cc c);
             asked = λ _ _. b.asker lines e;
-            lines = λ ls c. absurd (no_vote c refl);
+            lines = λ ls c. absurd (cc c);
             holds = λ _ k d o. holds_right s.vis.held (holds_of m.tx m.from lines) k m.tx (holds_of_has m.tx m.from lines k (rw (b.lines lines e) (drafted-homed net m.to (rs m.tx).drafts k o d)));
           })
           (votes_held net rs s.vis.held held' s.vis.air (λ k i _ h. holds_left s.vis.held (holds_of m.tx m.from lines) k i h) v.votes);
@@ -232,9 +233,9 @@ objects_keeps net s p m lines k v ripe e d x =
           (record {
             closing = b.closing;
             bound = b.bound;
-            asker = λ ls c. absurd (no_vote c refl);
+            asker = λ ls c. absurd (cc c);
             asked = λ _ _. b.asker lines e;
-            lines = λ ls c. absurd (no_vote c refl);
+            lines = λ ls c. absurd (cc c);
             holds = λ c k d o. absurd (cc c);
           })
           v.votes;
@@ -376,18 +377,6 @@ holders_freed net I P cs book held i t n g =
     }
 
 -- a property of each refused outcome
-pub each-refusal : (net : Net) (i : ℕ) (r : Record) (n : ℕ) (Q : Message → Type 0) → ((t : ℕ) → Q (refused_to net i r t)) → (x : Message) → In x (refusals_to net i r n) → Q x
-each-refusal net i r zero Q f x h = absurd h
-each-refusal net i r (suc t) Q f x h = elim (in_append x (refusals_to net i r t) _ h) [
-  | inl g ↦ each-refusal net i r t Q f x g
-  | inr g ↦ go (eqb t r.origin) (homed net t r.drafts) g
-]
-  where
-    go : (b : Bool) (ds : List Draft) → In x (cond b [] (unless_none ds (refused_to net i r t))) → Q x
-    go true ds g = absurd g
-    go false [] g = absurd g
-    go false (d ∷ ds) g = only Q (refused_to net i r t) (f t) x g
-
 pub refuses_keeps : (net : Net) (s : State) (p : ℕ) (m : Message) (named : Option Objection) (k : Objection) → Invariant net s → Ripe net s.vis p m → m.body ≡ vote named → (s.vis.records m.tx).awaited ≡ 1 → option_or (s.vis.records m.tx).named named ≡ Some k → Invariant net (on s (refusing net s.vis p m k))
 refuses_keeps net s p m named k v ripe e one q =
     let a = ripe.there in
@@ -422,7 +411,7 @@ refuses_keeps net s p m named k v ripe e one q =
           (reads-put net P s.vis.records i r rest s.readings (differ Closing Waiting refl c) (λ q. (q, refl)) (reads_landed net P s.vis.records s.vis.air s.readings p m a v.reads));
       outcomes = outcomes_sent net P s.vis.clocks rest ms (each (λ x. is_granted x.body ≡ false) (λ t. refl)) (outcomes_landed net P s.vis.clocks s.vis.air p m a (ap is_granted e) v.outcomes);
       refusals = refusals_sent net P rs s.vis.book rest ms
-          (λ x j. each (λ x. x.body ≡ vote (Some j) → Justified net (intents rs) P s.vis.book x.tx j) (λ t b. absurd (both_ways false refl (ap is_ballot b))) x)
+          (λ x j. each (λ x. x.body ≡ vote (Some j) → Justified net (intents rs) P s.vis.book x.tx j) (λ t b. absurd (cc b)) x)
           (refusals_put net P s.vis.records i r s.vis.book rest same
           (λ j _ n. let ej : k ≡ j = cc n in subst (λ (a : Objection). Justified net (intents s.vis.records) P s.vis.book i a) ej (named-cause net s m named k v h e c q))
           (λ _. (k, refl))
