@@ -199,26 +199,26 @@ module _ (net : Net) (s : State) (p : ℕ) (m : Message) (lines : List Draft) (v
 -- ## The steps
 
 rule_kept : (net : Net) {s : State} {v' : Visible} {c : Call} {a : Told} → Invariant net s → More net s → Kept net s → (x : Rule net s.vis v' c a) → Kept net (next net s x)
-rule_kept net {s} v r g (begins t l _ e) = subst (λ (w : Visible). Kept net (on s w)) (sym e) (record { once = g.once; lone = g.lone; unheld = g.unheld; won = won_put s.placed s.vis.records s.vis.begun (opened t (s.vis.clocks t)) g.won (λ x. absurd (differ Open Granted refl refl x)) })
-rule_kept net {s} v r g (reads_own i k d o h e) = subst (λ (w : Visible). Kept net (on s w)) (sym e) g
-rule_kept net {s} v r g (asks i k o _ n e) = subst (λ (w : Visible). Kept net (on s w)) (sym e) (
+rule_kept net {s} v r g (begins t l _ e) = record { once = g.once; lone = g.lone; unheld = g.unheld; won = won_put s.placed s.vis.records s.vis.begun (opened t (s.vis.clocks t)) g.won (λ x. absurd (differ Open Granted refl refl x)) }
+rule_kept net {s} v r g (reads_own i k d o h e) = g
+rule_kept net {s} v r g (asks i k o _ n e) =
     let q = message i (s.vis.records i).origin (net.home k) (s.vis.records i).bound (query k (not (s.vis.records i).answered)) in
     record {
       once = g.once;
       lone = lone_sent s.vis.air (q ∷ []) (only (λ x. is_prepare x.body ≡ false) q refl) g.lone;
       unheld = unheld_sent net s.vis.held s.vis.air (q ∷ []) (only (λ x. is_prepare x.body ≡ false) q refl) g.unheld;
       won = won_put s.placed s.vis.records i (in_phase Waiting (s.vis.records i)) g.won (λ x. absurd (differ Waiting Granted refl refl x));
-    })
-rule_kept net {s} v r g (drafts i k w o _ _ e) = subst (λ (w : Visible). Kept net (on s w)) (sym e) (record { once = g.once; lone = g.lone; unheld = g.unheld; won = won_put s.placed s.vis.records i (drafting (redrafted k w (s.vis.records i).drafts) (s.vis.records i)) g.won (λ x. absurd (differ Open Granted refl o x)) })
-rule_kept net {s} v r g (drops i o e) = subst (λ (w : Visible). Kept net (on s w)) (sym e) (record { once = g.once; lone = g.lone; unheld = g.unheld; won = won_put s.placed s.vis.records i (in_phase Dropped (s.vis.records i)) g.won (λ x. absurd (differ Dropped Granted refl refl x)) })
-rule_kept net {s} v r g (closes_empty i o n e) = subst (λ (w : Visible). Kept net (on s w)) (sym e) (record { once = g.once; lone = g.lone; unheld = g.unheld; won = won_put s.placed s.vis.records i (voting Granted 0 None (s.vis.records i)) g.won (λ _. inl n) })
-rule_kept net {s} v r g (closes i o n e) = subst (λ (w : Visible). Kept net (on s w)) (sym e) (record {
+    }
+rule_kept net {s} v r g (drafts i k w o _ _ e) = record { once = g.once; lone = g.lone; unheld = g.unheld; won = won_put s.placed s.vis.records i (drafting (redrafted k w (s.vis.records i).drafts) (s.vis.records i)) g.won (λ x. absurd (differ Open Granted refl o x)) }
+rule_kept net {s} v r g (drops i o e) = record { once = g.once; lone = g.lone; unheld = g.unheld; won = won_put s.placed s.vis.records i (in_phase Dropped (s.vis.records i)) g.won (λ x. absurd (differ Dropped Granted refl refl x)) }
+rule_kept net {s} v r g (closes_empty i o n e) = record { once = g.once; lone = g.lone; unheld = g.unheld; won = won_put s.placed s.vis.records i (voting Granted 0 None (s.vis.records i)) g.won (λ _. inl n) }
+rule_kept net {s} v r g (closes i o n e) = record {
   once = g.once;
   lone = closes_lone net s i v g o;
   unheld = closes_unheld net s i v g o;
   won = won_put s.placed s.vis.records i (voting Closing (length (prepares net i (s.vis.records i) net.towers)) None (s.vis.records i)) g.won (λ x. absurd (differ Closing Granted refl refl x));
-})
-rule_kept net {s} v r g (replies p m k first a b e) = subst (λ (w : Visible). Kept net (on s w)) (sym e) (
+}
+rule_kept net {s} v r g (replies p m k first a b e) =
     let c : Clock = cond first (s.vis.clocks m.to) m.bound in
     let q = message m.tx m.to m.from c (answer k (newest_within c (s.vis.book k))) in
     record {
@@ -226,36 +226,36 @@ rule_kept net {s} v r g (replies p m k first a b e) = subst (λ (w : Visible). K
       lone = lone_sent (without s.vis.air p) (q ∷ []) (only (λ x. is_prepare x.body ≡ false) q refl) (lone_landed s.vis.air p m a.there g.lone);
       unheld = unheld_sent net s.vis.held (without s.vis.air p) (q ∷ []) (only (λ x. is_prepare x.body ≡ false) q refl) (unheld_landed net s.vis.held s.vis.air p g.unheld);
       won = g.won;
-    })
-rule_kept net {s} v r g (receives p m k shown a b e) = subst (λ (w : Visible). Kept net (noting s (record { tx = m.tx; key = k; shown = shown }) w)) (sym e) (record {
+    }
+rule_kept net {s} v r g (receives p m k shown a b e) = record {
   once = g.once;
   lone = lone_landed s.vis.air p m a g.lone;
   unheld = unheld_landed net s.vis.held s.vis.air p g.unheld;
   won = won_put s.placed s.vis.records m.tx (reading_at m.bound (s.vis.records m.tx)) g.won (λ x. absurd (differ Open Granted refl refl x));
-})
-rule_kept net {s} v r g (agrees p m lines a b n e) = subst (λ (w : Visible). Kept net (on s w)) (sym e) (
+}
+rule_kept net {s} v r g (agrees p m lines a b n e) =
     let q = message m.tx m.to m.from m.bound (vote None) in
     record {
       once = agrees-once net s p m lines v g r a.there b (unopposed net s.vis m lines n);
       lone = lone_sent (without s.vis.air p) (q ∷ []) (only (λ x. is_prepare x.body ≡ false) q refl) (lone_landed s.vis.air p m a.there g.lone);
       unheld = unheld_sent net (s.vis.held ++ holds_of m.tx m.from lines) (without s.vis.air p) (q ∷ []) (only (λ x. is_prepare x.body ≡ false) q refl) (agrees_unheld net s p m lines v g r a.there b (unopposed net s.vis m lines n));
       won = g.won;
-    })
-rule_kept net {s} v r g (objects p m lines k a b y e) = subst (λ (w : Visible). Kept net (on s w)) (sym e) (
+    }
+rule_kept net {s} v r g (objects p m lines k a b y e) =
     let q = message m.tx m.to m.from m.bound (vote (Some k)) in
     record {
       once = g.once;
       lone = lone_sent (without s.vis.air p) (q ∷ []) (only (λ x. is_prepare x.body ≡ false) q refl) (lone_landed s.vis.air p m a.there g.lone);
       unheld = unheld_sent net s.vis.held (without s.vis.air p) (q ∷ []) (only (λ x. is_prepare x.body ≡ false) q refl) (unheld_landed net s.vis.held s.vis.air p g.unheld);
       won = g.won;
-    })
-rule_kept net {s} v r g (counts p m named a b l e) = subst (λ (w : Visible). Kept net (on s w)) (sym e) (record {
+    }
+rule_kept net {s} v r g (counts p m named a b l e) = record {
   once = g.once;
   lone = lone_landed s.vis.air p m a.there g.lone;
   unheld = unheld_landed net s.vis.held s.vis.air p g.unheld;
   won = won_put s.placed s.vis.records m.tx (voting Closing (pred (s.vis.records m.tx).awaited) (option_or (s.vis.records m.tx).named named) (s.vis.records m.tx)) g.won (λ x. absurd (differ Closing Granted refl refl x));
-})
-rule_kept net {s} v r g (grants p m named a b l q e) = subst (λ (w : Visible). Kept net (placing s (placement s.vis m.tx) w)) (sym e) (
+}
+rule_kept net {s} v r g (grants p m named a b l q e) =
     let i = m.tx in
     let o = (s.vis.records i).origin in
     let w = granted_record s.vis i in
@@ -267,8 +267,8 @@ rule_kept net {s} v r g (grants p m named a b l q e) = subst (λ (w : Visible). 
       lone = lone_sent (without s.vis.air p) ms each (lone_landed s.vis.air p m a.there g.lone);
       unheld = unheld_sent net (freed net i o s.vis.held) (without s.vis.air p) ms each (unheld_fewer net s.vis.held (freed net i o s.vis.held) (without s.vis.air p) (holds_freed net i o s.vis.held) (unheld_landed net s.vis.held s.vis.air p g.unheld));
       won = won_put (T ∷ s.placed) s.vis.records i w (λ j x. elim (g.won j x) [ inl y ↦ inl y | inr y ↦ inr (inr y) ]) (λ _. inr (inl refl));
-    })
-rule_kept net {s} v r g (refuses p m named k a b l q e) = subst (λ (w : Visible). Kept net (on s w)) (sym e) (
+    }
+rule_kept net {s} v r g (refuses p m named k a b l q e) =
     let i = m.tx in
     let w = voting Refused 0 (Some k) (s.vis.records i) in
     let ms = refusals_to net i (s.vis.records i) net.towers in
@@ -278,19 +278,19 @@ rule_kept net {s} v r g (refuses p m named k a b l q e) = subst (λ (w : Visible
       lone = lone_sent (without s.vis.air p) ms each (lone_landed s.vis.air p m a.there g.lone);
       unheld = unheld_sent net (freed net i w.origin s.vis.held) (without s.vis.air p) ms each (unheld_fewer net s.vis.held (freed net i w.origin s.vis.held) (without s.vis.air p) (holds_freed net i w.origin s.vis.held) (unheld_landed net s.vis.held s.vis.air p g.unheld));
       won = won_put s.placed s.vis.records i w g.won (λ x. absurd (differ Refused Granted refl refl x));
-    })
-rule_kept net {s} v r g (takes_in p m n lines a b l e) = subst (λ (w : Visible). Kept net (on s w)) (sym e) (record {
+    }
+rule_kept net {s} v r g (takes_in p m n lines a b l e) = record {
   once = once-freed net m.tx m.to s.vis.held g.once;
   lone = lone_landed s.vis.air p m a.there g.lone;
   unheld = unheld_fewer net s.vis.held (freed net m.tx m.to s.vis.held) (without s.vis.air p) (holds_freed net m.tx m.to s.vis.held) (unheld_landed net s.vis.held s.vis.air p g.unheld);
   won = g.won;
-})
-rule_kept net {s} v r g (releases p m a b e) = subst (λ (w : Visible). Kept net (on s w)) (sym e) (record {
+}
+rule_kept net {s} v r g (releases p m a b e) = record {
   once = once-freed net m.tx m.to s.vis.held g.once;
   lone = lone_landed s.vis.air p m a g.lone;
   unheld = unheld_fewer net s.vis.held (freed net m.tx m.to s.vis.held) (without s.vis.air p) (holds_freed net m.tx m.to s.vis.held) (unheld_landed net s.vis.held s.vis.air p g.unheld);
   won = g.won;
-})
+}
 
 pub run_kept : (net : Net) {h : List Event} {s : State} → Logged net h s → Kept net s
 run_kept net start = record { once = λ k. omega arith; lone = λ i t. omega arith; unheld = λ m ls k h. absurd h; won = λ i c. absurd (differ Dropped Granted refl refl c) }

@@ -275,9 +275,9 @@ less zero l = absurd (omega arith)
 less (suc n) l = omega arith
 
 rule_more : (net : Net) {s : State} {v' : Visible} {c : Call} {a : Told} → Invariant net s → More net s → (x : Rule net s.vis v' c a) → More net (next net s x)
-rule_more net {s} v g (begins t l _ e) = subst (λ (w : Visible). More net (on s w)) (sym e) (begins-more net s t v g)
-rule_more net {s} v g (reads_own i k d o h e) = subst (λ (w : Visible). More net (on s w)) (sym e) g
-rule_more net {s} v g (asks i k o _ n e) = subst (λ (w : Visible). More net (on s w)) (sym e) (
+rule_more net {s} v g (begins t l _ e) = begins-more net s t v g
+rule_more net {s} v g (reads_own i k d o h e) = g
+rule_more net {s} v g (asks i k o _ n e) =
     let r = in_phase Waiting (s.vis.records i) in
     let q = message i (s.vis.records i).origin (net.home k) (s.vis.records i).bound (query k (not (s.vis.records i).answered)) in
     record {
@@ -286,12 +286,12 @@ rule_more net {s} v g (asks i k o _ n e) = subst (λ (w : Visible). More net (on
       roomy = g.roomy;
       growing = growing_sent (put s.vis.records i r) s.vis.air (q ∷ []) (growing_dumb (put s.vis.records i r) (q ∷ []) (only Dumb q (λ j w b. cc b))) (growing_put s.vis.records i r s.vis.air refl g.growing);
       owed = owed_sent net s.placed s.vis.clocks s.vis.air (q ∷ []) (only (λ x. is_granted x.body ≡ false) q refl) g.owed;
-    })
-rule_more net {s} v g (drafts i k w o _ _ e) = subst (λ (w : Visible). More net (on s w)) (sym e) (amend_more net s i (drafting (redrafted k w (s.vis.records i).drafts) (s.vis.records i)) g (λ c. absurd (differ Open Closing refl o c)) (λ j. redraft_tidy k w j (s.vis.records i).drafts (g.tidy i)) refl)
-rule_more net {s} v g (drops i o e) = subst (λ (w : Visible). More net (on s w)) (sym e) (amend_more net s i (in_phase Dropped (s.vis.records i)) g (λ c. absurd (differ Dropped Closing refl refl c)) (g.tidy i) refl)
-rule_more net {s} v g (closes_empty i o n e) = subst (λ (w : Visible). More net (on s w)) (sym e) (amend_more net s i (voting Granted 0 None (s.vis.records i)) g (λ c. absurd (differ Granted Closing refl refl c)) (g.tidy i) refl)
-rule_more net {s} v g (closes i o n e) = subst (λ (w : Visible). More net (on s w)) (sym e) (closes-more net s i n g)
-rule_more net {s} v g (replies p m k first r b e) = subst (λ (w : Visible). More net (on s w)) (sym e) (
+    }
+rule_more net {s} v g (drafts i k w o _ _ e) = amend_more net s i (drafting (redrafted k w (s.vis.records i).drafts) (s.vis.records i)) g (λ c. absurd (differ Open Closing refl o c)) (λ j. redraft_tidy k w j (s.vis.records i).drafts (g.tidy i)) refl
+rule_more net {s} v g (drops i o e) = amend_more net s i (in_phase Dropped (s.vis.records i)) g (λ c. absurd (differ Dropped Closing refl refl c)) (g.tidy i) refl
+rule_more net {s} v g (closes_empty i o n e) = amend_more net s i (voting Granted 0 None (s.vis.records i)) g (λ c. absurd (differ Granted Closing refl refl c)) (g.tidy i) refl
+rule_more net {s} v g (closes i o n e) = closes-more net s i n g
+rule_more net {s} v g (replies p m k first r b e) =
     let c : Clock = cond first (s.vis.clocks m.to) m.bound in
     let q = message m.tx m.to m.from c (answer k (newest_within c (s.vis.book k))) in
     record {
@@ -300,8 +300,8 @@ rule_more net {s} v g (replies p m k first r b e) = subst (λ (w : Visible). Mor
       roomy = g.roomy;
       growing = growing_sent s.vis.records (without s.vis.air p) (q ∷ []) (λ x j w h y. only (λ x. (s.vis.records x.tx).bound ⊑ x.bound) q (reply_growing net s p m k first v r b) x h) (growing_landed s.vis.records s.vis.air p g.growing);
       owed = swap_owed net s.placed s.vis.clocks s.vis.air p m (q ∷ []) r.there (ap is_granted b) (only (λ x. is_granted x.body ≡ false) q refl) g.owed;
-    })
-rule_more net {s} v g (receives p m k shown a b e) = subst (λ (w : Visible). More net (noting s (record { tx = m.tx; key = k; shown = shown }) w)) (sym e) (
+    }
+rule_more net {s} v g (receives p m k shown a b e) =
     let r = reading_at m.bound (s.vis.records m.tx) in
     record {
       ready = ready_put s.vis.records m.tx r g.ready (λ c. absurd (differ Open Closing refl refl c));
@@ -309,8 +309,8 @@ rule_more net {s} v g (receives p m k shown a b e) = subst (λ (w : Visible). Mo
       roomy = g.roomy;
       growing = receives_growing net s p m k shown v a b g.growing;
       owed = owed_landed net s.placed s.vis.clocks s.vis.air p m a (ap is_granted b) g.owed;
-    })
-rule_more net {s} v g (agrees p m lines r b n e) = subst (λ (w : Visible). More net (on s w)) (sym e) (
+    }
+rule_more net {s} v g (agrees p m lines r b n e) =
     let q = message m.tx m.to m.from m.bound (vote None) in
     record {
       ready = g.ready;
@@ -318,8 +318,8 @@ rule_more net {s} v g (agrees p m lines r b n e) = subst (λ (w : Visible). More
       roomy = g.roomy;
       growing = swap_growing s.vis.records s.vis.air p (q ∷ []) (only Dumb q (ballot_dumb q refl)) g.growing;
       owed = swap_owed net s.placed s.vis.clocks s.vis.air p m (q ∷ []) r.there (ap is_granted b) (only (λ x. is_granted x.body ≡ false) q refl) g.owed;
-    })
-rule_more net {s} v g (objects p m lines k r b y e) = subst (λ (w : Visible). More net (on s w)) (sym e) (
+    }
+rule_more net {s} v g (objects p m lines k r b y e) =
     let q = message m.tx m.to m.from m.bound (vote (Some k)) in
     record {
       ready = g.ready;
@@ -327,8 +327,8 @@ rule_more net {s} v g (objects p m lines k r b y e) = subst (λ (w : Visible). M
       roomy = g.roomy;
       growing = swap_growing s.vis.records s.vis.air p (q ∷ []) (only Dumb q (ballot_dumb q refl)) g.growing;
       owed = swap_owed net s.placed s.vis.clocks s.vis.air p m (q ∷ []) r.there (ap is_granted b) (only (λ x. is_granted x.body ≡ false) q refl) g.owed;
-    })
-rule_more net {s} v g (counts p m named r b l e) = subst (λ (w : Visible). More net (on s w)) (sym e) (
+    }
+rule_more net {s} v g (counts p m named r b l e) =
     let i = m.tx in
     let x = voting Closing (pred (s.vis.records i).awaited) (option_or (s.vis.records i).named named) (s.vis.records i) in
     record {
@@ -337,9 +337,9 @@ rule_more net {s} v g (counts p m named r b l e) = subst (λ (w : Visible). More
       roomy = g.roomy;
       growing = growing_put s.vis.records i x (without s.vis.air p) refl (growing_landed s.vis.records s.vis.air p g.growing);
       owed = owed_landed net s.placed s.vis.clocks s.vis.air p m r.there (ap is_granted b) g.owed;
-    })
-rule_more net {s} v g (grants p m named r b l q e) = subst (λ (w : Visible). More net (placing s (placement s.vis m.tx) w)) (sym e) (let x = grants-more net s p m named v g r b l q in record { ready = x.0; tidy = x.1; roomy = x.2; growing = x.3; owed = x.4 })
-rule_more net {s} v g (refuses p m named k r b l q e) = subst (λ (w : Visible). More net (on s w)) (sym e) (
+    }
+rule_more net {s} v g (grants p m named r b l q e) = let x = grants-more net s p m named v g r b l q in record { ready = x.0; tidy = x.1; roomy = x.2; growing = x.3; owed = x.4 }
+rule_more net {s} v g (refuses p m named k r b l q e) =
     let i = m.tx in
     let x = voting Refused 0 (Some k) (s.vis.records i) in
     let ms = refusals_to net i (s.vis.records i) net.towers in
@@ -351,17 +351,17 @@ rule_more net {s} v g (refuses p m named k r b l q e) = subst (λ (w : Visible).
       growing = growing_sent (put s.vis.records i x) (without s.vis.air p) ms (growing_dumb (put s.vis.records i x) ms (each Dumb (λ t j w b. cc b)))
           (growing_put s.vis.records i x (without s.vis.air p) refl (growing_landed s.vis.records s.vis.air p g.growing));
       owed = swap_owed net s.placed s.vis.clocks s.vis.air p m ms r.there (ap is_granted b) (each (λ x. is_granted x.body ≡ false) (λ t. refl)) g.owed;
-    })
-rule_more net {s} v g (takes_in p m n lines r b l e) = subst (λ (w : Visible). More net (on s w)) (sym e) (
+    }
+rule_more net {s} v g (takes_in p m n lines r b l e) =
     let x = takes_more net s p m n lines v g r b l in
-    record { ready = g.ready; tidy = g.tidy; roomy = x.0; growing = growing_landed s.vis.records s.vis.air p g.growing; owed = x.1 })
-rule_more net {s} v g (releases p m a b e) = subst (λ (w : Visible). More net (on s w)) (sym e) (record {
+    record { ready = g.ready; tidy = g.tidy; roomy = x.0; growing = growing_landed s.vis.records s.vis.air p g.growing; owed = x.1 }
+rule_more net {s} v g (releases p m a b e) = record {
   ready = g.ready;
   tidy = g.tidy;
   roomy = g.roomy;
   growing = growing_landed s.vis.records s.vis.air p g.growing;
   owed = owed_landed net s.placed s.vis.clocks s.vis.air p m a (ap is_granted b) g.owed;
-})
+}
 
 pub run_more : (net : Net) {h : List Event} {s : State} → Logged net h s → More net s
 run_more net start = record {

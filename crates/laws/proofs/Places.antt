@@ -30,22 +30,22 @@ kept s i r p n g = (
 )
 
 rule_places : (net : Net) {s : State} {h : List Event} {v' : Visible} {c : Call} {a : Told} → Invariant net s → Linked h s → Places s → (x : Rule net s.vis v' c a) → Places (next net s x)
-rule_places net {s} v l g (begins t _ _ e) = subst (λ (w : Visible). Places (on s w)) (sym e) (
+rule_places net {s} v l g (begins t _ _ e) =
     let b = v.unbegun s.vis.begun (omega arith) in
     let k = kept s s.vis.begun (opened t (s.vis.clocks t)) (sym (ap (λ (x : Record). x.place) b)) (sym (ap (λ (x : Record). x.number) b)) g in
-    record { place = k.0; number = k.1 })
-rule_places net {s} v l g (reads_own i k d o q e) = subst (λ (w : Visible). Places (on s w)) (sym e) (record { place = g.place; number = g.number })
-rule_places net {s} v l g (asks i k o _ n e) = subst (λ (w : Visible). Places (on s w)) (sym e) (let k = kept s i (in_phase Waiting (s.vis.records i)) refl refl g in record { place = k.0; number = k.1 })
-rule_places net {s} v l g (drafts i k x o _ _ e) = subst (λ (w : Visible). Places (on s w)) (sym e) (let k = kept s i (drafting (redrafted k x (s.vis.records i).drafts) (s.vis.records i)) refl refl g in record { place = k.0; number = k.1 })
-rule_places net {s} v l g (drops i o e) = subst (λ (w : Visible). Places (on s w)) (sym e) (let k = kept s i (in_phase Dropped (s.vis.records i)) refl refl g in record { place = k.0; number = k.1 })
-rule_places net {s} v l g (closes_empty i o n e) = subst (λ (w : Visible). Places (on s w)) (sym e) (let k = kept s i (voting Granted 0 None (s.vis.records i)) refl refl g in record { place = k.0; number = k.1 })
-rule_places net {s} v l g (closes i o n e) = subst (λ (w : Visible). Places (on s w)) (sym e) (let k = kept s i (voting Closing (length (prepares net i (s.vis.records i) net.towers)) None (s.vis.records i)) refl refl g in record { place = k.0; number = k.1 })
-rule_places net {s} v l g (replies p m k first r b e) = subst (λ (w : Visible). Places (on s w)) (sym e) (record { place = g.place; number = g.number })
-rule_places net {s} v l g (receives p m k shown x b e) = subst (λ (w : Visible). Places (noting s (record { tx = m.tx; key = k; shown = shown }) w)) (sym e) (let k = kept s m.tx (reading_at m.bound (s.vis.records m.tx)) refl refl g in record { place = k.0; number = k.1 })
-rule_places net {s} v l g (agrees p m lines r b n e) = subst (λ (w : Visible). Places (on s w)) (sym e) (record { place = g.place; number = g.number })
-rule_places net {s} v l g (objects p m lines x r b n e) = subst (λ (w : Visible). Places (on s w)) (sym e) (record { place = g.place; number = g.number })
-rule_places net {s} v l g (counts p m named r b q e) = subst (λ (w : Visible). Places (on s w)) (sym e) (let k = kept s m.tx (voting Closing (pred (s.vis.records m.tx).awaited) (option_or (s.vis.records m.tx).named named) (s.vis.records m.tx)) refl refl g in record { place = k.0; number = k.1 })
-rule_places net {s} v l g (grants p m named r b one q e) = subst (λ (w : Visible). Places (placing s (placement s.vis m.tx) w)) (sym e) (
+    record { place = k.0; number = k.1 }
+rule_places net {s} v l g (reads_own i k d o q e) = record { place = g.place; number = g.number }
+rule_places net {s} v l g (asks i k o _ n e) = let k = kept s i (in_phase Waiting (s.vis.records i)) refl refl g in record { place = k.0; number = k.1 }
+rule_places net {s} v l g (drafts i k x o _ _ e) = let k = kept s i (drafting (redrafted k x (s.vis.records i).drafts) (s.vis.records i)) refl refl g in record { place = k.0; number = k.1 }
+rule_places net {s} v l g (drops i o e) = let k = kept s i (in_phase Dropped (s.vis.records i)) refl refl g in record { place = k.0; number = k.1 }
+rule_places net {s} v l g (closes_empty i o n e) = let k = kept s i (voting Granted 0 None (s.vis.records i)) refl refl g in record { place = k.0; number = k.1 }
+rule_places net {s} v l g (closes i o n e) = let k = kept s i (voting Closing (length (prepares net i (s.vis.records i) net.towers)) None (s.vis.records i)) refl refl g in record { place = k.0; number = k.1 }
+rule_places net {s} v l g (replies p m k first r b e) = record { place = g.place; number = g.number }
+rule_places net {s} v l g (receives p m k shown x b e) = let k = kept s m.tx (reading_at m.bound (s.vis.records m.tx)) refl refl g in record { place = k.0; number = k.1 }
+rule_places net {s} v l g (agrees p m lines r b n e) = record { place = g.place; number = g.number }
+rule_places net {s} v l g (objects p m lines x r b n e) = record { place = g.place; number = g.number }
+rule_places net {s} v l g (counts p m named r b q e) = let k = kept s m.tx (voting Closing (pred (s.vis.records m.tx).awaited) (option_or (s.vis.records m.tx).named named) (s.vis.records m.tx)) refl refl g in record { place = k.0; number = k.1 }
+rule_places net {s} v l g (grants p m named r b one q e) =
     let i = m.tx in
     let w = granted_record s.vis i in
     record {
@@ -53,10 +53,10 @@ rule_places net {s} v l g (grants p m named r b one q e) = subst (λ (w : Visibl
           (rw (eq-eqb i i refl) (ap (λ (n : ℕ). Some (suc n)) (length_txs s.placed ∙ sym l.last)))
           (λ j n. rw (ne_eqb i j n) (g.place j));
       number = put_case (λ j x. x.place ≡ 0 → x.number ≡ 0) s.vis.records i w (λ z. absurd (omega (arith, z))) (λ j _. g.number j);
-    })
-rule_places net {s} v l g (refuses p m named x r b one q e) = subst (λ (w : Visible). Places (on s w)) (sym e) (let k = kept s m.tx (voting Refused 0 (Some x) (s.vis.records m.tx)) refl refl g in record { place = k.0; number = k.1 })
-rule_places net {s} v l g (takes_in p m n lines r b q e) = subst (λ (w : Visible). Places (on s w)) (sym e) (record { place = g.place; number = g.number })
-rule_places net {s} v l g (releases p m x b e) = subst (λ (w : Visible). Places (on s w)) (sym e) (record { place = g.place; number = g.number })
+    }
+rule_places net {s} v l g (refuses p m named x r b one q e) = let k = kept s m.tx (voting Refused 0 (Some x) (s.vis.records m.tx)) refl refl g in record { place = k.0; number = k.1 }
+rule_places net {s} v l g (takes_in p m n lines r b q e) = record { place = g.place; number = g.number }
+rule_places net {s} v l g (releases p m x b e) = record { place = g.place; number = g.number }
 
 pub run-places : (net : Net) {h : List Event} {s : State} → Logged net h s → Places s
 run-places net start = record { place = λ i. refl; number = λ i _. refl }

@@ -52,40 +52,40 @@ answered_by net s p m q g h t f =
     each_append (Posted net) (without s.vis.air p) (q ∷ []) (each_without (Posted net) s.vis.air p g.mail) (only (Posted net) q (rw t (g.mail m h).1, rw f (g.mail m h).0))
 
 rule_ranges : (net : Net) {s : State} {v' : Visible} {c : Call} {a : Told} → Ranges net s → (x : Rule net s.vis v' c a) → Ranges net (next net s x)
-rule_ranges net {s} g (begins t l _ e) = subst (λ (w : Visible). Ranges net (on s w)) (sym e) (record { origins = origins_put net s.vis.records s.vis.begun _ g.origins l; mail = g.mail })
-rule_ranges net {s} g (reads_own i k d o h e) = subst (λ (w : Visible). Ranges net (on s w)) (sym e) g
-rule_ranges net {s} g (asks i k o _ n e) = subst (λ (w : Visible). Ranges net (on s w)) (sym e) (record {
+rule_ranges net {s} g (begins t l _ e) = record { origins = origins_put net s.vis.records s.vis.begun _ g.origins l; mail = g.mail }
+rule_ranges net {s} g (reads_own i k d o h e) = g
+rule_ranges net {s} g (asks i k o _ n e) = record {
   origins = origins_put net s.vis.records i (in_phase Waiting (s.vis.records i)) g.origins (g.origins i);
   mail = each_append (Posted net) s.vis.air _ g.mail (only (Posted net) _ (net.housed k, g.origins i));
-})
-rule_ranges net {s} g (drafts i k w o _ _ e) = subst (λ (w : Visible). Ranges net (on s w)) (sym e) (record { origins = origins_put net s.vis.records i (drafting (redrafted k w (s.vis.records i).drafts) (s.vis.records i)) g.origins (g.origins i); mail = g.mail })
-rule_ranges net {s} g (drops i o e) = subst (λ (w : Visible). Ranges net (on s w)) (sym e) (record { origins = origins_put net s.vis.records i (in_phase Dropped (s.vis.records i)) g.origins (g.origins i); mail = g.mail })
-rule_ranges net {s} g (closes_empty i o n e) = subst (λ (w : Visible). Ranges net (on s w)) (sym e) (record { origins = origins_put net s.vis.records i (voting Granted 0 None (s.vis.records i)) g.origins (g.origins i); mail = g.mail })
-rule_ranges net {s} g (closes i o n e) = subst (λ (w : Visible). Ranges net (on s w)) (sym e) (record {
+}
+rule_ranges net {s} g (drafts i k w o _ _ e) = record { origins = origins_put net s.vis.records i (drafting (redrafted k w (s.vis.records i).drafts) (s.vis.records i)) g.origins (g.origins i); mail = g.mail }
+rule_ranges net {s} g (drops i o e) = record { origins = origins_put net s.vis.records i (in_phase Dropped (s.vis.records i)) g.origins (g.origins i); mail = g.mail }
+rule_ranges net {s} g (closes_empty i o n e) = record { origins = origins_put net s.vis.records i (voting Granted 0 None (s.vis.records i)) g.origins (g.origins i); mail = g.mail }
+rule_ranges net {s} g (closes i o n e) = record {
   origins = origins_put net s.vis.records i (voting Closing (length (prepares net i (s.vis.records i) net.towers)) None (s.vis.records i)) g.origins (g.origins i);
   mail = each_append (Posted net) s.vis.air _ g.mail (mail_prepares net i (s.vis.records i) net.towers (g.origins i) (omega arith));
-})
-rule_ranges net {s} g (replies p m k first r b e) = subst (λ (w : Visible). Ranges net (on s w)) (sym e) (record { origins = g.origins; mail = answered_by net s p m _ g (in_at s.vis.air p m r.there) refl refl })
-rule_ranges net {s} g (receives p m k shown a b e) = subst (λ (w : Visible). Ranges net (noting s (record { tx = m.tx; key = k; shown = shown }) w)) (sym e) (record {
+}
+rule_ranges net {s} g (replies p m k first r b e) = record { origins = g.origins; mail = answered_by net s p m _ g (in_at s.vis.air p m r.there) refl refl }
+rule_ranges net {s} g (receives p m k shown a b e) = record {
   origins = origins_put net s.vis.records m.tx (reading_at m.bound (s.vis.records m.tx)) g.origins (g.origins m.tx);
   mail = each_without (Posted net) s.vis.air p g.mail;
-})
-rule_ranges net {s} g (agrees p m lines r b n e) = subst (λ (w : Visible). Ranges net (on s w)) (sym e) (record { origins = g.origins; mail = answered_by net s p m _ g (in_at s.vis.air p m r.there) refl refl })
-rule_ranges net {s} g (objects p m lines k r b y e) = subst (λ (w : Visible). Ranges net (on s w)) (sym e) (record { origins = g.origins; mail = answered_by net s p m _ g (in_at s.vis.air p m r.there) refl refl })
-rule_ranges net {s} g (counts p m named r b l e) = subst (λ (w : Visible). Ranges net (on s w)) (sym e) (record {
+}
+rule_ranges net {s} g (agrees p m lines r b n e) = record { origins = g.origins; mail = answered_by net s p m _ g (in_at s.vis.air p m r.there) refl refl }
+rule_ranges net {s} g (objects p m lines k r b y e) = record { origins = g.origins; mail = answered_by net s p m _ g (in_at s.vis.air p m r.there) refl refl }
+rule_ranges net {s} g (counts p m named r b l e) = record {
   origins = origins_put net s.vis.records m.tx _ g.origins (g.origins m.tx);
   mail = each_without (Posted net) s.vis.air p g.mail;
-})
-rule_ranges net {s} g (grants p m named r b l q e) = subst (λ (w : Visible). Ranges net (placing s (placement s.vis m.tx) w)) (sym e) (record {
+}
+rule_ranges net {s} g (grants p m named r b l q e) = record {
   origins = origins_put net s.vis.records m.tx _ g.origins (g.origins m.tx);
   mail = each_append (Posted net) (without s.vis.air p) _ (each_without (Posted net) s.vis.air p g.mail) (mail_grants net _ net.towers (g.origins m.tx) (omega arith));
-})
-rule_ranges net {s} g (refuses p m named k r b l q e) = subst (λ (w : Visible). Ranges net (on s w)) (sym e) (record {
+}
+rule_ranges net {s} g (refuses p m named k r b l q e) = record {
   origins = origins_put net s.vis.records m.tx _ g.origins (g.origins m.tx);
   mail = each_append (Posted net) (without s.vis.air p) _ (each_without (Posted net) s.vis.air p g.mail) (mail_refusals net m.tx (s.vis.records m.tx) net.towers (g.origins m.tx) (omega arith));
-})
-rule_ranges net {s} g (takes_in p m n lines r b l e) = subst (λ (w : Visible). Ranges net (on s w)) (sym e) (record { origins = g.origins; mail = each_without (Posted net) s.vis.air p g.mail })
-rule_ranges net {s} g (releases p m a b e) = subst (λ (w : Visible). Ranges net (on s w)) (sym e) (record { origins = g.origins; mail = each_without (Posted net) s.vis.air p g.mail })
+}
+rule_ranges net {s} g (takes_in p m n lines r b l e) = record { origins = g.origins; mail = each_without (Posted net) s.vis.air p g.mail }
+rule_ranges net {s} g (releases p m a b e) = record { origins = g.origins; mail = each_without (Posted net) s.vis.air p g.mail }
 
 pub run_ranges : (net : Net) {h : List Event} {s : State} → Logged net h s → Ranges net s
 run_ranges net start = record { origins = λ i. omega (arith, net.housed 0); mail = λ m h. absurd h }

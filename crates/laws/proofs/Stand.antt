@@ -25,22 +25,22 @@ use Rattle.laws.proofs.Shown.{shown_right}
 use Rattle.laws.proofs.Granting.{takes_in_keeps, grants_keeps}
 
 rule_keeps : (net : Net) {s : State} {v' : Visible} {c : Call} {a : Told} → Invariant net s → (x : Rule net s.vis v' c a) → Invariant net (next net s x)
-rule_keeps net {s} v (begins t l _ e) = subst (λ (w : Visible). Invariant net (on s w)) (sym e) (begins_keeps net s t v)
-rule_keeps net {s} v (reads_own i k d o h e) = subst (λ (w : Visible). Invariant net (on s w)) (sym e) v
-rule_keeps net {s} v (asks i k o _ n e) = subst (λ (w : Visible). Invariant net (on s w)) (sym e) (asks_keeps net s i k v o)
-rule_keeps net {s} v (drafts i k w o _ _ e) = subst (λ (w : Visible). Invariant net (on s w)) (sym e) (drafts_keeps net s i (redrafted k w (s.vis.records i).drafts) v o)
-rule_keeps net {s} v (drops i o e) = subst (λ (w : Visible). Invariant net (on s w)) (sym e) (drops_keeps net s i v o)
-rule_keeps net {s} v (closes_empty i o n e) = subst (λ (w : Visible). Invariant net (on s w)) (sym e) (closes_empty_keeps net s i v o)
-rule_keeps net {s} v (closes i o n e) = subst (λ (w : Visible). Invariant net (on s w)) (sym e) (closes_keeps net s i v o)
-rule_keeps net {s} v (replies p m k first r b e) = subst (λ (w : Visible). Invariant net (on s w)) (sym e) (replies_keeps net s p m k first v r b)
-rule_keeps net {s} v (receives p m k shown a b e) = subst (λ (w : Visible). Invariant net (noting s (record { tx = m.tx; key = k; shown = shown }) w)) (sym e) (receives_keeps net s p m k shown v a b)
-rule_keeps net {s} v (agrees p m lines r b n e) = subst (λ (w : Visible). Invariant net (on s w)) (sym e) (agrees_keeps net s p m lines v r b (unopposed net s.vis m lines n))
-rule_keeps net {s} v (objects p m lines k r b y e) = subst (λ (w : Visible). Invariant net (on s w)) (sym e) (let o = opposed net s.vis m lines k y in objects_keeps net s p m lines k v r b o.0 o.1)
-rule_keeps net {s} v (counts p m named r b l e) = subst (λ (w : Visible). Invariant net (on s w)) (sym e) (counts_keeps net s p m named v r b)
-rule_keeps net {s} v (grants p m named r b l q e) = subst (λ (w : Visible). Invariant net (placing s (placement s.vis m.tx) w)) (sym e) (grants_keeps net s p m named v r b l q)
-rule_keeps net {s} v (refuses p m named k r b l q e) = subst (λ (w : Visible). Invariant net (on s w)) (sym e) (refuses_keeps net s p m named k v r b l q)
-rule_keeps net {s} v (takes_in p m n lines r b l e) = subst (λ (w : Visible). Invariant net (on s w)) (sym e) (takes_in_keeps net s p m n lines v r b l)
-rule_keeps net {s} v (releases p m a b e) = subst (λ (w : Visible). Invariant net (on s w)) (sym e) (releases_keeps net s p m v a b)
+rule_keeps net {s} v (begins t l _ e) = begins_keeps net s t v
+rule_keeps net {s} v (reads_own i k d o h e) = v
+rule_keeps net {s} v (asks i k o _ n e) = asks_keeps net s i k v o
+rule_keeps net {s} v (drafts i k w o _ _ e) = drafts_keeps net s i (redrafted k w (s.vis.records i).drafts) v o
+rule_keeps net {s} v (drops i o e) = drops_keeps net s i v o
+rule_keeps net {s} v (closes_empty i o n e) = closes_empty_keeps net s i v o
+rule_keeps net {s} v (closes i o n e) = closes_keeps net s i v o
+rule_keeps net {s} v (replies p m k first r b e) = replies_keeps net s p m k first v r b
+rule_keeps net {s} v (receives p m k shown a b e) = receives_keeps net s p m k shown v a b
+rule_keeps net {s} v (agrees p m lines r b n e) = agrees_keeps net s p m lines v r b (unopposed net s.vis m lines n)
+rule_keeps net {s} v (objects p m lines k r b y e) = let o = opposed net s.vis m lines k y in objects_keeps net s p m lines k v r b o.0 o.1
+rule_keeps net {s} v (counts p m named r b l e) = counts_keeps net s p m named v r b
+rule_keeps net {s} v (grants p m named r b l q e) = grants_keeps net s p m named v r b l q
+rule_keeps net {s} v (refuses p m named k r b l q e) = refuses_keeps net s p m named k v r b l q
+rule_keeps net {s} v (takes_in p m n lines r b l e) = takes_in_keeps net s p m n lines v r b l
+rule_keeps net {s} v (releases p m a b e) = releases_keeps net s p m v a b
 
 pub new_holds : (net : Net) → Invariant net first
 new_holds net = record {
