@@ -1,19 +1,18 @@
 -- The calls that deliver nothing keep the invariant. Assumes nothing.
-use Rattle.std.proofs.Common.{◌≡◌, ℕ, zero, suc, ◌<◌, Bool, true, false, cond, not, ◌&&◌, eqb, ◌≢◌, ◌⊎◌, List, [], ◌∷◌, ◌++◌, length, Some, None, Option, sym, refl, ap, ◌∙◌, subst, inl, inr, arith}
+use Rattle.std.proofs.Common.{◌≡◌, ℕ, zero, suc, ◌<◌, Bool, true, false, cond, not, ◌&&◌, eqb, ◌≢◌, ◌⊎◌, List, [], ◌∷◌, ◌++◌, length, Some, None, sym, refl, ap, ◌∙◌, inl, inr, arith}
 use Rattle.std.proofs.lemmas.Bool.{eq-eqb, ne_eqb, eqb-true, eqb-false, cases_eq, cases_Bool, both_ways, and_left, and_from, and_parts}
-use Rattle.clocks.specs.declared.Version.{Version}
 use Rattle.messages.specs.declared.Draft.{Draft}
 use Rattle.tables.specs.declared.Phase.TheVariants.{Open, Waiting, Closing, Granted, Refused, Dropped}
 use Rattle.messages.specs.declared.Objection.{Objection}
 use Rattle.laws.specs.Lists.{put, In, tally}
-use Rattle.laws.specs.Net.{Record, Body, query, answer, prepare, vote, refused, Message, Net, Drafted, has_closed}
+use Rattle.laws.specs.Net.{Record, query, vote, refused, Message, Net, Drafted, has_closed}
 use Rattle.laws.proofs.Model.{State, on}
 use Rattle.laws.specs.State.{amended}
 use Rattle.laws.specs.Rules.{asked, begun_at, closed}
 use Rattle.laws.specs.Words.{blank, opened, in_phase, drafting, voting, message, unless_none, homed, prepare_to, prepares}
 use Rattle.laws.proofs.Lists.{put_same, put_other, put_case, in_left, in_right, in_append, tally-append, tally-none}
 use Rattle.laws.proofs.Sent.{each-prepare}
-use Rattle.laws.proofs.Invariant.{intents, is_read, is_ballot, is_granted, is_refused, polled, reads, ballots, Holds, Ballot, Votes, Justified, Invariant}
+use Rattle.laws.proofs.Invariant.{intents, is_read, is_ballot, is_granted, polled, reads, ballots, Holds, Ballot, Votes, Justified, Invariant}
 use Rattle.laws.proofs.Frames.{same-put, holders_same, granteds_put, bounds-put, unbegun_put, votes_put, reads-put, refusals_put, votes_sent, reads-sent, outcomes_sent, refusals_sent, differ, only, reads_more}
 
 -- what a call other than a close does to an open transaction

@@ -9,9 +9,9 @@ use Rattle.tables.specs.declared.Phase.TheVariants.{Waiting, Closing, Granted, R
 use Rattle.laws.specs.Lists.{put, In}
 use Rattle.laws.specs.Net.{Record, Placement, Net, ◌⊑◌, is_ballot}
 use Rattle.laws.proofs.Log.{Seen}
-use Rattle.laws.proofs.Model.{Logged, State, after-step, next, noting, on, placing, start, then}
+use Rattle.laws.proofs.Model.{Logged, State, after-step, next, start, then}
 use Rattle.laws.specs.Rules.{Rule, Step, agrees, asks, begins, closes, closes_empty, counts, drafts, drops, fails, grants, receives, releases, reads_own, obeys, objects, refuses, replies, takes_in}
-use Rattle.laws.specs.State.{granted_record, placement, Visible}
+use Rattle.laws.specs.State.{granted_record, Visible}
 use Rattle.laws.specs.Words.{opened, in_phase, drafting, reading_at, voting, redrafted, placed_as, prepares, Event}
 use Rattle.laws.specs.History.{Note, note, is_begun, is_shown, is_placed, is_other, is_fault, placed_by, begun_by, placed_in, begun_in, NextTold, Counted, before_by, placed_before_in, origin_in}
 use Rattle.laws.proofs.Lists.{put_case, put_same, put_other, in_at}

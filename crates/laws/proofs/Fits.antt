@@ -1,5 +1,5 @@
 -- Whatever the net holds or sends is in range. Assumes nothing.
-use Rattle.std.proofs.Common.{◌≡◌, ℕ, zero, suc, pred, ◌<◌, ◌≤◌, Bool, true, false, cond, not, ◌&&◌, eqb, ◌≢◌, ◌⊎◌, List, [], ◌∷◌, ◌++◌, length, Some, None, filter, find, Option, Result, sym, refl, subst, inl, inr, arith}
+use Rattle.std.proofs.Common.{◌≡◌, ℕ, suc, pred, ◌<◌, ◌≤◌, Bool, true, false, cond, not, ◌&&◌, eqb, ◌≢◌, ◌⊎◌, List, [], ◌∷◌, ◌++◌, length, Some, None, filter, find, Option, Result, sym, refl, subst, inl, inr, arith}
 use Rattle.std.specs.Option.{option_or}
 use Rattle.clocks.specs.declared.Version.{Version}
 use Rattle.messages.specs.declared.Draft.{Draft}
@@ -16,12 +16,13 @@ use Rattle.messages.specs.declared.Conflict.TheVariants.{Held as HeldBy, Newer, 
 use Rattle.tables.specs.declared.Held.{Held}
 use Rattle.laws.specs.Lists.{put, In, At, without}
 use Rattle.laws.specs.Net.{Clock, Record, Body, query, answer, prepare, vote, granted, Message, Placement, Net, Drafted, written, inside, newest_within, newest}
-use Rattle.laws.specs.Words.{opened, in_phase, drafting, reading_at, voting, placed_as, message, redrafted, unless_none, homed, prepare_to, granted_to, refused_to, prepares, grants_to, refusals_to, Event, holds_of, freed, another_holds, held_conflict, newer_conflict, conflict_at}
+use Rattle.laws.specs.Words.{opened, in_phase, drafting, reading_at, voting, placed_as, message, redrafted, homed, prepares, grants_to, refusals_to, Event, holds_of, freed, another_holds, held_conflict, newer_conflict, conflict_at}
 use Rattle.laws.specs.State.{granted_record, Visible}
 use Rattle.laws.specs.Rules.{Rule, Step, Run, start, then, fails, obeys, begins, reads_own, asks, drafts, drops, closes_empty, closes, replies, receives, agrees, objects, counts, grants, refuses, takes_in, releases}
 use Rattle.laws.specs.Frames.{FitClock, FitVersion, FitLines, FitShown, FitNamed, FitBody, Fit, FitRecord, FitHeld, FitConflict, InRange, CallOk, CallsOk, NumbersInRange}
 use Rattle.laws.specs.Further.{Always}
-use Rattle.laws.proofs.Lists.{put_same, put_case, put_all, in_at, in_append, in_without, in_filter, each_append, each_without}
+use Rattle.laws.proofs.Model.{next, bare, by_rule}
+use Rattle.laws.proofs.Lists.{put_same, put_case, put_all, in_at, in_append, in_filter, each_append, each_without}
 use Rattle.laws.proofs.Sent.{in_grants, in_prepares, in_refusals}
 use Rattle.laws.proofs.Frames.{only, differ}
 use Rattle.laws.proofs.Shown.{last_is}
@@ -176,17 +177,17 @@ module _ (net : Net) (ok : Content → Bool) where
 
   -- ## The steps
 
-  rule_fits : {v v' : Visible} {c : Call} {a : Told} → ((i : ℕ) → (v.records i).phase ≢ Dropped → i < v.begun) → ((t j : ℕ) → v'.clocks t j ≤ v'.begun) → CallOk ok c → InRange net ok v → Rule net v v' c a → InRange net ok v'
-  rule_fits {v} op sm y g (begins t l n e) = subst (InRange net ok) (sym e) (record {
+  rule_fits : {v v' : Visible} {c : Call} {a : Told} → ((i : ℕ) → (v.records i).phase ≢ Dropped → i < v.begun) → CallOk ok c → InRange net ok v → (x : Rule net v v' c a) → (let w = (next net (bare v) x).vis in ((t j : ℕ) → w.clocks t j ≤ w.begun) → InRange net ok w)
+  rule_fits {v} op y g (begins t l n e) sm = record {
     begun = omega (arith, n);
     clocks = g.clocks;
     records = records-put v.records v.begun (opened t (v.clocks t)) g.records (record { origin = l; bound = g.clocks t; drafts = record { each = λ d h. absurd h; few = omega arith }; named = tt });
     book = g.book;
     held = g.held;
     air = g.air;
-  })
-  rule_fits op sm y g (reads_own i k d o h e) = subst (InRange net ok) (sym e) g
-  rule_fits {v} op sm y g (asks i k o l n e) = subst (InRange net ok) (sym e) (
+  }
+  rule_fits op y g (reads_own i k d o h e) sm = g
+  rule_fits {v} op y g (asks i k o l n e) sm =
       let r = g.records i in
       let b : i < net.transactions = omega (arith, op i (differ Open Dropped refl o), g.begun) in
       record {
@@ -196,8 +197,8 @@ module _ (net : Net) (ok : Content → Bool) where
         book = g.book;
         held = g.held;
         air = each_append (Fit net ok) v.air _ g.air (only (Fit net ok) (message i (v.records i).origin (net.home k) (v.records i).bound (query k (not (v.records i).answered))) (record { tx = b; from = r.origin; to = net.housed k; bound = r.bound; body = l }));
-      })
-  rule_fits {v} op sm y g (drafts i k x o a l e) = subst (InRange net ok) (sym e) (
+      }
+  rule_fits {v} op y g (drafts i k x o a l e) sm =
       let r = g.records i in
       record {
         begun = g.begun;
@@ -206,8 +207,8 @@ module _ (net : Net) (ok : Content → Bool) where
         book = g.book;
         held = g.held;
         air = g.air;
-      })
-  rule_fits {v} op sm y g (drops i o e) = subst (InRange net ok) (sym e) (
+      }
+  rule_fits {v} op y g (drops i o e) sm =
       let r = g.records i in
       record {
         begun = g.begun;
@@ -216,8 +217,8 @@ module _ (net : Net) (ok : Content → Bool) where
         book = g.book;
         held = g.held;
         air = g.air;
-      })
-  rule_fits {v} op sm y g (closes_empty i o n e) = subst (InRange net ok) (sym e) (
+      }
+  rule_fits {v} op y g (closes_empty i o n e) sm =
       let r = g.records i in
       record {
         begun = g.begun;
@@ -226,8 +227,8 @@ module _ (net : Net) (ok : Content → Bool) where
         book = g.book;
         held = g.held;
         air = g.air;
-      })
-  rule_fits {v} op sm y g (closes i o n e) = subst (InRange net ok) (sym e) (
+      }
+  rule_fits {v} op y g (closes i o n e) sm =
       let r = g.records i in
       let ms = prepares net i (v.records i) net.towers in
       let b : i < net.transactions = omega (arith, op i (differ Open Dropped refl o), g.begun) in
@@ -238,8 +239,8 @@ module _ (net : Net) (ok : Content → Bool) where
         book = g.book;
         held = g.held;
         air = each_append (Fit net ok) v.air ms g.air (mail_prepares i (v.records i) net.towers b r (omega arith));
-      })
-  rule_fits {v} op sm y g (replies p m k first r b e) = subst (InRange net ok) (sym e) (
+      }
+  rule_fits {v} op y g (replies p m k first r b e) sm =
       let h = g.air m (in_at v.air p m r.there) in
       let c : Clock = cond first (v.clocks m.to) m.bound in
       let kb : k < net.keys = subst (FitBody net ok) b h.body in
@@ -250,8 +251,8 @@ module _ (net : Net) (ok : Content → Bool) where
         book = g.book;
         held = g.held;
         air = answered_by v.air p m c (answer k (newest_within c (v.book k))) g.air r.there (clock_choice first (v.clocks m.to) m.bound (g.clocks m.to) h.bound) (kb, shown_fit c (v.book k) (g.book k));
-      })
-  rule_fits {v} op sm y g (receives p m k shown a b e) = subst (InRange net ok) (sym e) (
+      }
+  rule_fits {v} op y g (receives p m k shown a b e) sm =
       let h = g.air m (in_at v.air p m a) in
       let r = g.records m.tx in
       record {
@@ -261,8 +262,8 @@ module _ (net : Net) (ok : Content → Bool) where
         book = g.book;
         held = g.held;
         air = each_without (Fit net ok) v.air p g.air;
-      })
-  rule_fits {v} op sm y g (agrees p m lines r b n e) = subst (InRange net ok) (sym e) (
+      }
+  rule_fits {v} op y g (agrees p m lines r b n e) sm =
       let q = g.air m (in_at v.air p m r.there) in
       let f : FitBody net ok (prepare lines) = subst (FitBody net ok) b q.body in
       record {
@@ -272,8 +273,8 @@ module _ (net : Net) (ok : Content → Bool) where
         book = g.book;
         held = each_append (FitHeld net) v.held (holds_of m.tx m.from lines) g.held (holds_fit m.tx m.from lines q.tx q.from f.0.each);
         air = answered_by v.air p m m.bound (vote None) g.air r.there (g.air m (in_at v.air p m r.there)).bound tt;
-      })
-  rule_fits {v} op sm y g (objects p m lines k r b x e) = subst (InRange net ok) (sym e) (
+      }
+  rule_fits {v} op y g (objects p m lines k r b x e) sm =
       let h = g.air m (in_at v.air p m r.there) in
       let f : FitBody net ok (prepare lines) = subst (FitBody net ok) b h.body in
       record {
@@ -283,8 +284,8 @@ module _ (net : Net) (ok : Content → Bool) where
         book = g.book;
         held = g.held;
         air = answered_by v.air p m m.bound (vote (Some k)) g.air r.there h.bound (let w = lines-found _ lines k x in (drafted_fit lines k.key f.0.each w.0, conflict_fit v.held (v.book k.key) m.bound m.tx k.key k.conflict g.held (g.book k.key) w.1));
-      })
-  rule_fits {v} op sm y g (counts p m named r b l e) = subst (InRange net ok) (sym e) (
+      }
+  rule_fits {v} op y g (counts p m named r b l e) sm =
       let h = g.air m (in_at v.air p m r.there) in
       let x = g.records m.tx in
       record {
@@ -295,15 +296,15 @@ module _ (net : Net) (ok : Content → Bool) where
         book = g.book;
         held = g.held;
         air = each_without (Fit net ok) v.air p g.air;
-      })
-  rule_fits {v} op sm y g (grants p m named r b l q e) = subst (InRange net ok) (sym e) (
+      }
+  rule_fits {v} op y g (grants p m named r b l q e) sm =
       let h = g.air m (in_at v.air p m r.there) in
       let i = m.tx in
       let x = g.records i in
       let o = (v.records i).origin in
       let n = suc (v.clocks o o) in
       let w = granted_record v i in
-      let small : put v.clocks o (put (v.clocks o) o n) o o ≤ v.begun = subst (λ (z : Visible). (t j : ℕ) → z.clocks t j ≤ z.begun) e sm o o in
+      let small : put v.clocks o (put (v.clocks o) o n) o o ≤ v.begun = sm o o in
       let small' : n ≤ v.begun = rw (put_same v.clocks o (put (v.clocks o) o n) o refl, put_same (v.clocks o) o n o refl) at small in
       let top : n ≤ net.transactions = omega (arith, small', g.begun) in
       record {
@@ -313,8 +314,8 @@ module _ (net : Net) (ok : Content → Bool) where
         book = λ k y z. elim (in_append y (v.book k) _ z) [ inl z ↦ g.book k y z | inr z ↦ written_fit i o n (homed net o (v.records i).drafts) k y h.tx x.origin (omega arith) top (homed_fit o (v.records i).drafts x.drafts).each z ];
         held = tray_freed i o v.held g.held;
         air = each_append (Fit net ok) (without v.air p) _ (each_without (Fit net ok) v.air p g.air) (mail_grants (placed_as i w) net.towers h.tx x.origin x.bound (let z : 1 ≤ n = omega arith in z) top x.drafts (omega arith));
-      })
-  rule_fits {v} op sm y g (refuses p m named k r b l q e) = subst (InRange net ok) (sym e) (
+      }
+  rule_fits {v} op y g (refuses p m named k r b l q e) sm =
       let h = g.air m (in_at v.air p m r.there) in
       let x = g.records m.tx in
       let f : FitNamed net (Some k) = subst (FitNamed net) q (option_or_fit (v.records m.tx).named named x.named (subst (FitBody net ok) b h.body)) in
@@ -327,8 +328,8 @@ module _ (net : Net) (ok : Content → Bool) where
         book = g.book;
         held = tray_freed m.tx (v.records m.tx).origin v.held g.held;
         air = each_append (Fit net ok) (without v.air p) _ (each_without (Fit net ok) v.air p g.air) (mail_refusals m.tx (v.records m.tx) net.towers h.tx x (omega arith));
-      })
-  rule_fits {v} op sm y g (takes_in p m n lines r b l e) = subst (InRange net ok) (sym e) (
+      }
+  rule_fits {v} op y g (takes_in p m n lines r b l e) sm =
       let h = g.air m (in_at v.air p m r.there) in
       let f : FitBody net ok (granted n lines) = subst (FitBody net ok) b h.body in
       record {
@@ -338,12 +339,12 @@ module _ (net : Net) (ok : Content → Bool) where
         book = λ k y z. elim (in_append y (v.book k) _ z) [ inl z ↦ g.book k y z | inr z ↦ written_fit m.tx m.from n lines k y h.tx h.from f.0 f.1 f.2.each z ];
         held = tray_freed m.tx m.to v.held g.held;
         air = each_without (Fit net ok) v.air p g.air;
-      })
-  rule_fits {v} op sm y g (releases p m a b e) = subst (InRange net ok) (sym e) (record { begun = g.begun; clocks = g.clocks; records = g.records; book = g.book; held = tray_freed m.tx m.to v.held g.held; air = each_without (Fit net ok) v.air p g.air })
+      }
+  rule_fits {v} op y g (releases p m a b e) sm = record { begun = g.begun; clocks = g.clocks; records = g.records; book = g.book; held = tray_freed m.tx m.to v.held g.held; air = each_without (Fit net ok) v.air p g.air }
 
   step_fits : {v v' : Visible} {c : Call} {a : Result Told Cause} → ((i : ℕ) → (v.records i).phase ≢ Dropped → i < v.begun) → ((t j : ℕ) → v'.clocks t j ≤ v'.begun) → CallOk ok c → InRange net ok v → Step net v v' c a → InRange net ok v'
   step_fits op sm y g (fails f _ e) = subst (InRange net ok) (sym e) g
-  step_fits op sm y g (obeys _ x) = rule_fits op sm y g x
+  step_fits {v} op sm y g (obeys _ x) = by_rule net (λ w. ((t j : ℕ) → w.clocks t j ≤ w.begun) → InRange net ok w) v x (rule_fits op y g x) sm
 
   run_fits : {h : List Event} {v : Visible} → CallsOk ok h → Run net h v → InRange net ok v
   run_fits y start = record {

@@ -1,7 +1,7 @@
 -- A granted outcome that lands, and the vote that grants, keep the invariant. Assumes nothing.
-use Rattle.std.proofs.Common.{◌≡◌, ℕ, zero, suc, ◌<◌, ◌≤◌, Bool, true, false, cond, ◌&&◌, eqb, ◌≢◌, ◌⊎◌, List, [], ◌∷◌, ◌++◌, Some, None, Option, sym, refl, ap, ◌∙◌, subst, inl, inr, append-nil, arith}
+use Rattle.std.proofs.Common.{◌≡◌, ℕ, zero, suc, ◌<◌, ◌≤◌, true, false, cond, ◌&&◌, eqb, ◌≢◌, ◌⊎◌, List, [], ◌∷◌, ◌++◌, Some, None, Option, sym, refl, ap, ◌∙◌, subst, inl, inr, append-nil, arith}
 use Rattle.std.specs.Option.{option_or}
-use Rattle.std.proofs.lemmas.Bool.{eq-eqb, ne_eqb, cases_eq, both_ways, lt-leb, and_from}
+use Rattle.std.proofs.lemmas.Bool.{eq-eqb, ne_eqb, cases_eq, lt-leb, and_from}
 use Rattle.clocks.specs.declared.Version.{Version}
 use Rattle.messages.specs.declared.Draft.{Draft}
 use Rattle.tables.specs.declared.Held.{Held}
@@ -18,8 +18,8 @@ use Rattle.laws.specs.Words.{placed_as, homed, freed, granted_to, grants_to}
 use Rattle.laws.proofs.Lists.{put_same, put_other, put_case, in_left, in_right, in_append, in_at, in_without, in_rest, none_left}
 use Rattle.laws.proofs.Sent.{each_grant}
 use Rattle.laws.proofs.Placed.{Numbered, Ordered, Closed, count_self, count_grows, number_le, number_pos, new_unseen, shown-new, closed-new}
-use Rattle.laws.proofs.Invariant.{Intent, Intents, intents, is_read, is_ballot, is_granted, is_refused, polled, ballots, Fair, Bounds, Books, Holds, Holders, Granteds, Reads, Outcomes, Justified, Refusals, Invariant}
-use Rattle.laws.proofs.Frames.{same-put, holders_same, granteds_put, bounds-put, unbegun_put, reads-put, refusals_put, votes_landed, votes_sent, votes_held, reads_landed, reads-sent, outcomes_landed, refusals_landed, refusals_sent, freed_keeps, differ, only, intent_shut, placed-once, placed-other}
+use Rattle.laws.proofs.Invariant.{Intent, Intents, intents, is_read, is_ballot, is_granted, polled, ballots, Fair, Bounds, Books, Holds, Holders, Granteds, Reads, Outcomes, Justified, Refusals, Invariant}
+use Rattle.laws.proofs.Frames.{same-put, holders_same, granteds_put, bounds-put, unbegun_put, reads-put, refusals_put, votes_landed, votes_sent, votes_held, reads_landed, reads-sent, outcomes_landed, refusals_landed, refusals_sent, freed_keeps, differ, intent_shut, placed-once, placed-other}
 use Rattle.laws.proofs.Voting.{votes_over, polled_vote}
 use Rattle.laws.proofs.TakeIn.{passed, Next, passed_grows, passed_seen, passed_behind, passed_closed, added, added_books, added_full, added_holders, refusals_full}
 

@@ -1,5 +1,5 @@
 -- What a history tells of a transaction is what its record says. Assumes nothing.
-use Rattle.std.proofs.Common.{◌≡◌, ℕ, suc, cond, eqb, List, [], ◌∷◌, ◌++◌, length, Some, None, Ok, Result, sym, refl, ap, ◌∙◌, subst, arith}
+use Rattle.std.proofs.Common.{◌≡◌, ℕ, suc, cond, eqb, List, [], ◌∷◌, ◌++◌, length, Some, None, Ok, Result, sym, refl, ap, ◌∙◌, arith}
 use Rattle.std.specs.Option.{option_or}
 use Rattle.std.proofs.lemmas.Bool.{eq-eqb, ne_eqb}
 use Rattle.tables.specs.declared.Call.{Call}
@@ -10,9 +10,9 @@ use Rattle.clocks.specs.declared.Content.{Content}
 use Rattle.tables.specs.declared.Reading.{Reading}
 use Rattle.laws.specs.Lists.{put}
 use Rattle.laws.specs.Net.{Record, Placement, Net, content_of, writer_of}
-use Rattle.laws.proofs.Model.{Answered, Logged, State, after-step, next, noting, on, placing, start, then}
+use Rattle.laws.proofs.Model.{Answered, Logged, State, after-step, next, start, then}
 use Rattle.laws.specs.Rules.{Rule, Step, agrees, asks, begins, closes, closes_empty, counts, drafts, drops, fails, grants, receives, releases, reads_own, obeys, objects, refuses, replies, takes_in}
-use Rattle.laws.specs.State.{granted_record, placement, Visible}
+use Rattle.laws.specs.State.{granted_record, Visible}
 use Rattle.laws.specs.Words.{opened, in_phase, drafting, reading_at, voting, redrafted, prepares, Event}
 use Rattle.laws.specs.History.{placed_in, Counted, origin_in, begun_in, drafts_in, Received, reads_in}
 use Rattle.laws.proofs.Lists.{put_keeps, put_case}

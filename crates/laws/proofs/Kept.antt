@@ -13,9 +13,9 @@ use Rattle.laws.specs.Net.{Clock, Record, Body, query, answer, prepare, vote, gr
 use Rattle.laws.specs.Words.{opened, in_phase, drafting, reading_at, voting, placed_as, message, redrafted, unless_none, holds_of, homed, freed, prepares, prepare_to, grants_to, refusals_to, Event}
 use Rattle.laws.specs.History.{placed_in, number_of, number_in, place_of, from_one}
 use Rattle.laws.specs.Rules.{Run, Rule, agrees, asks, begins, closes, closes_empty, counts, drafts, drops, grants, receives, releases, reads_own, objects, refuses, replies, takes_in}
-use Rattle.laws.specs.State.{granted_record, placement, Visible}
+use Rattle.laws.specs.State.{granted_record, Visible}
 use Rattle.laws.specs.Further.{Always, HeldOnce, RecordsAgree}
-use Rattle.laws.proofs.Model.{Logged, State, by_step, log_of, next, noting, on, placing, start, then}
+use Rattle.laws.proofs.Model.{Logged, State, by_step, log_of, next, start, then}
 use Rattle.laws.proofs.Lists.{put_case, in_at, in_append, in_without, tally-append, tally_at, tally-none, none_left}
 use Rattle.laws.proofs.Sent.{each-prepare, each_grant, each-refusal}
 use Rattle.laws.proofs.Placed.{drafted?, number_pos}

@@ -23,6 +23,10 @@ pub record State : Type 0 where
   pub placed : List Placement
   pub readings : List Answered
 
+-- a state with nothing logged
+abbrev pub bare : Visible → State
+bare v = record { vis = v; placed = []; readings = [] }
+
 -- the same log of another state
 abbrev pub on : State → Visible → State
 on s w = record { vis = w; placed = s.placed; readings = s.readings }
@@ -57,7 +61,7 @@ after-step net s (fails f q e) = s
 after-step net s (obeys q x) = next net s x
 
 abbrev pub first : State
-first = record { vis = new; placed = []; readings = [] }
+first = bare new
 
 pub data Logged (net : Net) : List Event → State → Type 0 where
   start : Logged net [] first
@@ -68,6 +72,28 @@ pub by_step : (net : Net) (Q : State → Type 0) (s : State) {v' : Visible} {c :
 by_step net Q s q f (fails _ _ _) = q
 by_step net Q s q f (obeys _ x) = f _ x
 
+vis_next : (net : Net) (s : State) {v' : Visible} {c : Call} {a : Told} (x : Rule net s.vis v' c a) → (next net s x).vis ≡ v'
+vis_next net s (receives _ _ _ _ _ _ e) = sym e
+vis_next net s (grants _ _ _ _ _ _ _ e) = sym e
+vis_next net s (begins _ _ _ e) = sym e
+vis_next net s (reads_own _ _ _ _ _ e) = sym e
+vis_next net s (asks _ _ _ _ _ e) = sym e
+vis_next net s (drafts _ _ _ _ _ _ e) = sym e
+vis_next net s (drops _ _ e) = sym e
+vis_next net s (closes_empty _ _ _ e) = sym e
+vis_next net s (closes _ _ _ e) = sym e
+vis_next net s (replies _ _ _ _ _ _ e) = sym e
+vis_next net s (agrees _ _ _ _ _ _ e) = sym e
+vis_next net s (objects _ _ _ _ _ _ _ e) = sym e
+vis_next net s (counts _ _ _ _ _ _ e) = sym e
+vis_next net s (refuses _ _ _ _ _ _ _ _ e) = sym e
+vis_next net s (takes_in _ _ _ _ _ _ _ e) = sym e
+vis_next net s (releases _ _ _ _ e) = sym e
+
+-- what holds of what a rule makes holds after it
+pub by_rule : (net : Net) (Q : Visible → Type 0) (v : Visible) {v' : Visible} {c : Call} {a : Told} (x : Rule net v v' c a) → Q (next net (bare v) x).vis → Q v'
+by_rule net Q v x q = subst Q (vis_next net (bare v) x) q
+
 -- every run has its log
 pub log_of : (net : Net) {h : List Event} {v : Visible} → rules.Run net h v → (s : State) × Logged net h s × (s.vis ≡ v)
 log_of net rules.start = (first, start, refl)
@@ -76,24 +102,6 @@ log_of net (rules.then {v = v} {v' = v'} {c = c} {a = a} r x) =
     let y = subst (λ (w : Visible). Step net w v' c a) (sym ih.2) x in
     (after-step net ih.0 y, then ih.1 y, vis_after net ih.0 y)
   where
-    vis_next : (net : Net) (s : State) {v' : Visible} {c : Call} {a : Told} (x : Rule net s.vis v' c a) → (next net s x).vis ≡ v'
-    vis_next net s (receives _ _ _ _ _ _ e) = sym e
-    vis_next net s (grants _ _ _ _ _ _ _ e) = sym e
-    vis_next net s (begins _ _ _ e) = sym e
-    vis_next net s (reads_own _ _ _ _ _ e) = sym e
-    vis_next net s (asks _ _ _ _ _ e) = sym e
-    vis_next net s (drafts _ _ _ _ _ _ e) = sym e
-    vis_next net s (drops _ _ e) = sym e
-    vis_next net s (closes_empty _ _ _ e) = sym e
-    vis_next net s (closes _ _ _ e) = sym e
-    vis_next net s (replies _ _ _ _ _ _ e) = sym e
-    vis_next net s (agrees _ _ _ _ _ _ e) = sym e
-    vis_next net s (objects _ _ _ _ _ _ _ e) = sym e
-    vis_next net s (counts _ _ _ _ _ _ e) = sym e
-    vis_next net s (refuses _ _ _ _ _ _ _ _ e) = sym e
-    vis_next net s (takes_in _ _ _ _ _ _ _ e) = sym e
-    vis_next net s (releases _ _ _ _ e) = sym e
-
     vis_after : (net : Net) (s : State) {v' : Visible} {c : Call} {a : Result Told Cause} (x : Step net s.vis v' c a) → (after-step net s x).vis ≡ v'
     vis_after net s (fails f q e) = sym e
     vis_after net s (obeys q x) = vis_next net s x

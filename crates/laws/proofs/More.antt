@@ -14,9 +14,9 @@ use Rattle.clocks.specs.declared.Content.{Content}
 use Rattle.laws.specs.Lists.{put, In, At, without, tally}
 use Rattle.laws.specs.Net.{Clock, Record, query, answer, prepare, vote, granted, refused, Message, Placement, Net, ◌⊑◌, Drafted, written, newest_within, is_ballot, is_granted}
 use Rattle.laws.proofs.Log.{Seen}
-use Rattle.laws.proofs.Model.{Logged, State, by_step, next, noting, on, placing, start, then}
+use Rattle.laws.proofs.Model.{Logged, State, by_step, next, on, start, then}
 use Rattle.laws.specs.Rules.{Ripe, Rule, agrees, asks, begins, begun_at, closed, closes, closes_empty, counts, drafts, drops, grants, receives, releases, reads_own, objects, refuses, replies, takes_in}
-use Rattle.laws.specs.State.{granted_record, placement, Visible, amended}
+use Rattle.laws.specs.State.{granted_record, Visible, amended}
 use Rattle.laws.specs.Words.{opened, in_phase, drafting, reading_at, voting, placed_as, message, redrafted, homed, prepares, prepare_to, granted_to, grants_to, refusals_to, Event}
 use Rattle.laws.proofs.Lists.{put_other, put_all, put_keeps, in_at, in_append, in_without, none_left}
 use Rattle.laws.proofs.Sent.{each-prepare, each_grant, each-refusal}

@@ -14,7 +14,7 @@ use Rattle.laws.specs.Net.{Clock, Record, query, prepare, vote, Message, Net, is
 use Rattle.laws.specs.Words.{opened, in_phase, drafting, reading_at, voting, message, redrafted, holds_of, freed, prepares, grants_to, refusals_to}
 use Rattle.laws.specs.State.{Visible, granted_record, placement}
 use Rattle.laws.specs.Rules.{Rule, begins, reads_own, asks, drafts, drops, closes_empty, closes, replies, receives, agrees, objects, counts, grants, refuses, takes_in, releases}
-use Rattle.laws.proofs.Model.{State, on, noting, placing, next}
+use Rattle.laws.proofs.Model.{State, next}
 use Rattle.laws.proofs.Lists.{put_keeps, put_other, put_case, in_at, in_append, in_without, in_filter}
 use Rattle.laws.proofs.Sent.{each-prepare, each_grant, each-refusal}
 use Rattle.laws.proofs.Conflicts.{option_or_cases, Evidence, opposed}

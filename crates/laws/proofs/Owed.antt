@@ -10,7 +10,7 @@ use Rattle.laws.proofs.Lists.{put_same, put_other, in_append, in_without, tally-
 use Rattle.laws.proofs.Sent.{each_away, each_grant}
 use Rattle.laws.proofs.Placed.{Numbered, new_unseen, seen_or_same}
 use Rattle.laws.proofs.Invariant.{Outcomes}
-use Rattle.laws.proofs.Frames.{only, same-tally}
+use Rattle.laws.proofs.Frames.{same-tally}
 use Rattle.laws.proofs.TakeIn.{passed, Next}
 use Rattle.laws.proofs.Granting.{grants_has}
 

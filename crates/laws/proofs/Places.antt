@@ -1,5 +1,5 @@
 -- A record's number and place are what the history counts, and 0 for what is not placed. Assumes nothing.
-use Rattle.std.proofs.Common.{◌≡◌, ℕ, suc, pred, cond, eqb, List, length, Some, None, sym, refl, ap, ◌∙◌, subst, arith}
+use Rattle.std.proofs.Common.{◌≡◌, ℕ, suc, pred, cond, eqb, List, length, Some, None, sym, refl, ap, ◌∙◌, arith}
 use Rattle.std.specs.Option.{option_or}
 use Rattle.std.proofs.lemmas.Bool.{eq-eqb, ne_eqb}
 use Rattle.tables.specs.declared.Call.{Call}
@@ -8,10 +8,10 @@ use Rattle.tables.specs.declared.Phase.TheVariants.{Waiting, Closing, Granted, R
 use Rattle.laws.specs.Lists.{put}
 use Rattle.laws.specs.Net.{Record, Net}
 use Rattle.laws.specs.Words.{opened, in_phase, drafting, reading_at, voting, redrafted, prepares, Event}
-use Rattle.laws.specs.State.{Visible, granted_record, placement}
+use Rattle.laws.specs.State.{Visible, granted_record}
 use Rattle.laws.specs.History.{place_of, from_one}
 use Rattle.laws.specs.Rules.{Rule, begins, reads_own, asks, drafts, drops, closes_empty, closes, replies, receives, agrees, objects, counts, grants, refuses, takes_in, releases}
-use Rattle.laws.proofs.Model.{State, on, noting, placing, next, by_step, Logged, start, then}
+use Rattle.laws.proofs.Model.{State, next, by_step, Logged, start, then}
 use Rattle.laws.proofs.Lists.{put_case, put_keeps}
 use Rattle.laws.proofs.Invariant.{Invariant}
 use Rattle.laws.proofs.Stand.{run_holds}

@@ -1,18 +1,17 @@
 -- Every tower that a record or a message names is a tower of the net, and every message is of a transaction that has begun.
 -- A second invariant, beside the first. Assumes nothing.
-use Rattle.std.proofs.Common.{◌≡◌, ℕ, zero, suc, ◌<◌, ◌≤◌, Bool, true, false, cond, eqb, ◌≢◌, List, [], ◌∷◌, ◌++◌, length, None, sym, refl, ap, ◌∙◌, subst, inl, inr, arith}
+use Rattle.std.proofs.Common.{◌≡◌, ℕ, ◌<◌, ◌≤◌, ◌≢◌, List, [], ◌∷◌, ◌++◌, length, None, sym, refl, ap, ◌∙◌, subst, inl, inr, arith}
 use Rattle.std.proofs.lemmas.Bool.{cases_lt}
 use Rattle.tables.specs.declared.Call.{Call}
 use Rattle.tables.specs.declared.Told.{Told}
-use Rattle.messages.specs.declared.Draft.{Draft}
 use Rattle.tables.specs.declared.Phase.TheVariants.{Waiting, Closing, Granted, Refused, Dropped}
 use Rattle.laws.specs.Lists.{put, In, without}
 use Rattle.laws.specs.Net.{Record, Body, query, answer, prepare, vote, granted, refused, Message, Placement, Net}
-use Rattle.laws.proofs.Model.{Logged, State, by_step, next, noting, on, placing, start, then}
+use Rattle.laws.proofs.Model.{Logged, State, by_step, next, start, then}
 use Rattle.laws.specs.Rules.{Rule, agrees, asks, begins, closes, closes_empty, counts, drafts, drops, grants, receives, releases, reads_own, objects, refuses, replies, takes_in}
-use Rattle.laws.specs.State.{placement, Visible}
-use Rattle.laws.specs.Words.{in_phase, drafting, reading_at, voting, redrafted, unless_none, homed, prepare_to, granted_to, refused_to, prepares, grants_to, refusals_to, Event}
-use Rattle.laws.proofs.Lists.{put_all, in_at, in_append, in_without, each_append, each_without}
+use Rattle.laws.specs.State.{Visible}
+use Rattle.laws.specs.Words.{in_phase, drafting, reading_at, voting, redrafted, prepares, grants_to, refusals_to, Event}
+use Rattle.laws.proofs.Lists.{put_all, in_at, each_append, each_without}
 use Rattle.laws.proofs.Sent.{in_grants, in_prepares, in_refusals}
 use Rattle.laws.proofs.Frames.{only, differ}
 use Rattle.laws.proofs.Invariant.{Invariant, is_read, is_ballot}

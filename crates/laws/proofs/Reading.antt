@@ -1,17 +1,17 @@
 -- A query, or an answer, that lands keeps the invariant. Assumes nothing.
 use Rattle.std.proofs.Common.{◌≡◌, ℕ, ◌≤◌, Bool, true, false, cond, not, ◌&&◌, eqb, ◌≢◌, List, [], ◌∷◌, Some, Option, sym, refl, ap, ◌∙◌, subst, inl, inr, arith}
-use Rattle.std.proofs.lemmas.Bool.{eq-eqb, cond-true, cond-false, both_ways, and_from}
+use Rattle.std.proofs.lemmas.Bool.{eq-eqb, cond-true, cond-false, and_from}
 use Rattle.clocks.specs.declared.Version.{Version}
 use Rattle.tables.specs.declared.Phase.TheVariants.{Open, Waiting, Closing, Granted, Refused, Dropped}
 use Rattle.laws.specs.Lists.{put, In, At, without}
-use Rattle.laws.specs.Net.{Clock, Record, Body, query, answer, vote, refused, Message, Net, ◌⊑◌, newest_within, has_closed}
+use Rattle.laws.specs.Net.{Clock, Record, query, answer, vote, refused, Message, Net, ◌⊑◌, newest_within, has_closed}
 use Rattle.laws.proofs.Log.{versions}
 use Rattle.laws.proofs.Model.{Answered, State, noting, on}
 use Rattle.laws.specs.Rules.{Ripe, received, replied}
 use Rattle.laws.specs.Words.{reading_at, message}
 use Rattle.laws.proofs.Lists.{put_same, put_other, put_case, in_at, tally_at, none_left}
 use Rattle.laws.proofs.Placed.{shown_of_book}
-use Rattle.laws.proofs.Invariant.{intents, is_read, is_ballot, is_granted, is_refused, reads, Fair, Justified, Invariant}
+use Rattle.laws.proofs.Invariant.{intents, is_read, is_ballot, is_granted, reads, Fair, Justified, Invariant}
 use Rattle.laws.proofs.Frames.{same-put, holders_same, granteds_put, bounds-put, unbegun_put, votes_put, refusals_put, votes_landed, votes_sent, reads_landed, outcomes_landed, outcomes_sent, refusals_landed, refusals_sent, differ, only, reads_more}
 
 -- nothing else of the read is in the air

@@ -1,6 +1,6 @@
 -- The invariant holds after every list of calls, and the facts follow. Assumes nothing.
-use Rattle.std.proofs.Common.{◌≡◌, ℕ, true, false, ◌⊎◌, List, [], ◌∷◌, Some, sym, refl, ap, ◌∙◌, subst, inl, inr, arith}
-use Rattle.std.proofs.lemmas.Bool.{cases_eq, cases_Bool, both_ways, leb-true, leb-false}
+use Rattle.std.proofs.Common.{◌≡◌, ℕ, true, false, ◌⊎◌, List, [], ◌∷◌, Some, refl, ap, ◌∙◌, subst, inl, inr, arith}
+use Rattle.std.proofs.lemmas.Bool.{cases_eq, cases_Bool, leb-true, leb-false}
 use Rattle.tables.specs.declared.Phase.TheVariants.{Closing, Refused, Dropped}
 use Rattle.messages.specs.declared.Objection.{Objection}
 use Rattle.laws.proofs.Conflicts.{unopposed, opposed, says_map}
@@ -8,9 +8,9 @@ use Rattle.laws.proofs.Origins.{Sound, OriginsOf, rule_origins}
 use Rattle.laws.specs.Lists.{In}
 use Rattle.laws.specs.Net.{Record, Placement, Net, Drafted, has_closed}
 use Rattle.laws.proofs.Log.{Seen, seen}
-use Rattle.laws.proofs.Model.{Logged, State, by_step, first, next, noting, on, placing, start, then}
+use Rattle.laws.proofs.Model.{Logged, State, by_step, first, next, start, then}
 use Rattle.laws.specs.Rules.{Rule, agrees, asks, begins, closes, closes_empty, counts, drafts, drops, grants, receives, releases, reads_own, objects, refuses, replies, takes_in}
-use Rattle.laws.specs.State.{placement, Visible}
+use Rattle.laws.specs.State.{Visible}
 use Rattle.laws.specs.Words.{redrafted, homed, granted_to, Event}
 use Rattle.laws.proofs.Placed.{Ordered, number_le, taken_all}
 use Rattle.laws.proofs.Invariant.{Intent, intent, intents, Justified, Invariant}

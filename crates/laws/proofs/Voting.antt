@@ -1,5 +1,5 @@
 -- A prepare, or a vote that grants nothing, that lands keeps the invariant. Assumes nothing.
-use Rattle.std.proofs.Common.{◌≡◌, ℕ, zero, suc, pred, ◌<◌, ◌≤◌, Bool, true, false, cond, ◌&&◌, eqb, ◌≢◌, ◌⊎◌, List, [], ◌∷◌, ◌++◌, length, Some, None, Option, sym, refl, ap, ◌∙◌, subst, inl, inr, arith}
+use Rattle.std.proofs.Common.{◌≡◌, ℕ, suc, pred, ◌<◌, ◌≤◌, Bool, true, false, cond, ◌&&◌, eqb, ◌≢◌, ◌⊎◌, List, [], ◌∷◌, ◌++◌, length, Some, None, Option, sym, refl, ap, ◌∙◌, subst, inl, inr, arith}
 use Rattle.std.specs.Option.{option_or}
 use Rattle.std.proofs.lemmas.Bool.{eq-eqb, ne_eqb, cases_eq, cases_Bool, cond-true, cond-false, both_ways, leb-true, leb-false, and_left, and_from}
 use Rattle.clocks.specs.declared.Version.{Version}
@@ -17,7 +17,7 @@ use Rattle.laws.proofs.Log.{taken, Seen, seen, IsPlaced}
 use Rattle.laws.proofs.Model.{State, on}
 use Rattle.laws.specs.Rules.{Ripe, counted, released, refusing, voted}
 use Rattle.laws.specs.State.{holding}
-use Rattle.laws.specs.Words.{voting, message, unless_none, holds_of, homed, freed, refused_to, refusals_to}
+use Rattle.laws.specs.Words.{voting, message, holds_of, freed, refusals_to}
 use Rattle.laws.proofs.Lists.{put_same, put_other, put_case, in_left, in_right, in_append, in_at, in_without, in_rest, tally-append, tally_at, none_left}
 use Rattle.laws.proofs.Sent.{each-refusal}
 use Rattle.laws.proofs.Placed.{Closed, By, newest-covers, newest_by}
