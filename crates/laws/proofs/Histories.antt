@@ -1,6 +1,7 @@
 -- What a history tells of a transaction is what its record says. Assumes nothing.
-use Rattle.std.proofs.Common.{◌≡◌, ℕ, suc, cond, eqb, List, [], ◌∷◌, ◌++◌, length, Some, None, Ok, Result, sym, refl, ap, ◌∙◌, arith}
+use Rattle.std.proofs.Common.{◌≡◌, ℕ, suc, cond, eqb, List, [], ◌∷◌, ◌++◌, map, length, Some, None, Ok, Result, sym, refl, ap, ◌∙◌, arith}
 use Rattle.std.specs.Option.{option_or}
+use Rattle.std.proofs.lemmas.List.{length-map}
 use Rattle.std.proofs.lemmas.Bool.{eq-eqb, ne_eqb}
 use Rattle.tables.specs.declared.Call.{Call}
 use Rattle.faults.specs.declared.Cause.{Cause}
@@ -20,8 +21,7 @@ use Rattle.laws.proofs.Invariant.{Invariant}
 use Rattle.laws.proofs.Stand.{run_holds}
 
 abbrev pub txs : List Placement → List ℕ
-txs [] = []
-txs (T ∷ P) = T.tx ∷ txs P
+txs P = map (λ (T : Placement). T.tx) P
 
 abbrev pub received_of : List Answered → List Received
 received_of [] = []
@@ -31,10 +31,6 @@ received_of (d ∷ ds) = received_of ds ++ record { tx = d.tx; key = d.key; cont
 abbrev pub noted : List Answered → List Reading
 noted [] = []
 noted (d ∷ ds) = noted ds ++ record { tx = d.tx; key = d.key; writer = writer_of d.shown } ∷ []
-
-pub length_txs : (P : List Placement) → length (txs P) ≡ length P
-length_txs [] = refl
-length_txs (T ∷ P) = ap suc (length_txs P)
 
 abbrev Origins : List Event → (ℕ → Record) → Type 0
 Origins h rs = (i : ℕ) → (rs i).origin ≡ origin_in h i
@@ -139,7 +135,7 @@ linked_rule net {s} h v l (grants p m named r b one q e) =
       reads = l.reads;
       last = ap suc l.last;
       entries = l.entries;
-      counted = (ap suc (l.last ∙ sym (length_txs s.placed) ∙ ap length l.placed), l.counted);
+      counted = (ap suc (l.last ∙ sym (length-map s.placed (λ (T : Placement). T.tx)) ∙ ap length l.placed), l.counted);
     }
 linked_rule net {s} h v l (refuses p m named k r b one q e) =
     let r = voting Refused 0 (Some k) (s.vis.records m.tx) in

@@ -1,6 +1,7 @@
 -- A key is held once, and what is granted with drafts is placed. Assumes nothing.
-use Rattle.std.proofs.Common.{◌≡◌, ℕ, zero, suc, pred, ◌+◌, ◌<◌, ◌≤◌, Bool, true, false, cond, not, ◌&&◌, eqb, ◌≢◌, ◌⊎◌, List, [], ◌∷◌, ◌++◌, length, Some, None, sym, refl, ap, ◌∙◌, subst, inl, inr, arith}
+use Rattle.std.proofs.Common.{◌≡◌, ℕ, zero, suc, pred, ◌+◌, ◌<◌, ◌≤◌, Bool, true, false, cond, not, ◌&&◌, eqb, ◌≢◌, ◌⊎◌, List, [], ◌∷◌, ◌++◌, map, length, Some, None, sym, refl, ap, ◌∙◌, subst, inl, inr, arith}
 use Rattle.std.specs.Option.{option_or}
+use Rattle.std.proofs.lemmas.List.{length-map}
 use Rattle.std.proofs.lemmas.Bool.{eq-eqb, ne_eqb, eqb-true, cases_eq, cases_Bool, both_ways, and_parts, and_from, and_left, and_right}
 use Rattle.messages.specs.declared.Draft.{Draft}
 use Rattle.tables.specs.declared.Held.{Held}
@@ -25,11 +26,11 @@ use Rattle.laws.proofs.Calls.{homed-drafted}
 use Rattle.laws.proofs.Voting.{holds_cases}
 use Rattle.laws.proofs.Stand.{run_holds, intent_drafted}
 use Rattle.laws.proofs.More.{drafts_of, More, run_more, filter_fewer}
-use Rattle.laws.proofs.Histories.{txs, length_txs, Linked, run_linked}
+use Rattle.laws.proofs.Histories.{txs, Linked, run_linked}
 use Rattle.laws.proofs.Places.{Places, run-places}
 use Rattle.laws.proofs.Lawful.{placed_at, numbered_as}
 use Rattle.laws.proofs.Further.{always}
-use Rattle.laws.proofs.Few.{total, total_length, total_few}
+use Rattle.laws.proofs.Few.{few}
 use Rattle.laws.proofs.Fits.{drafted_fit, in_range}
 
 abbrev is_prepare : Body → Bool
@@ -299,16 +300,11 @@ run_kept net (then {s = s} r x) = by_step net (Kept net) s (run_kept net r) (λ 
 -- ## The laws
 
 abbrev keys_of : List Held → List ℕ
-keys_of [] = []
-keys_of (h ∷ hs) = h.key ∷ keys_of hs
+keys_of hs = map (λ (h : Held). h.key) hs
 
 keys-tally : (hs : List Held) (k : ℕ) → tally (λ x. eqb x k) (keys_of hs) ≡ tally (λ h. eqb h.key k) hs
 keys-tally [] k = refl
 keys-tally (h ∷ hs) k = rw (keys-tally hs k)
-
-keys_length : (hs : List Held) → length (keys_of hs) ≡ length hs
-keys_length [] = refl
-keys_length (h ∷ hs) = ap suc (keys_length hs)
 
 keys_in : (hs : List Held) (k : ℕ) → In k (keys_of hs) → (h : Held) × In h hs × (h.key ≡ k)
 keys_in [] k q = absurd q
@@ -327,10 +323,9 @@ held-once net h v r =
     let y = keys_in s.vis.held k q in
     let d = intent_drafted (s.vis.records y.0.tx) k (i.holders.meant k y.0.tx (y.0, y.1, y.2, refl)) in
     drafted_fit net (λ _. true) (s.vis.records y.0.tx).drafts k (range.records y.0.tx).drafts.each d.1 in
-    let few : total net.keys (keys_of s.vis.held) ≤ net.keys = total_few (keys_of s.vis.held) (λ k. omega (arith, keys-tally s.vis.held k, g.once k)) net.keys in
     subst (HeldOnce net h) x.2 (record {
       once = g.once;
-      enough = omega (arith, few, total_length net.keys (keys_of s.vis.held) below, keys_length s.vis.held);
+      enough = omega (arith, length-map s.vis.held (λ (h : Held). h.key), few net.keys (keys_of s.vis.held) below (λ k. omega (arith, keys-tally s.vis.held k, g.once k)));
     })
 
 -- what is not placed has no number, and what is placed has its own
@@ -364,7 +359,7 @@ agree net h s r =
     let l = run_linked net r in
     record {
       begun = l.begun;
-      last = l.last ∙ sym (length_txs s.placed) ∙ ap length l.placed;
+      last = l.last ∙ sym (length-map s.placed (λ (T : Placement). T.tx)) ∙ ap length l.placed;
       origin = l.origins;
       drafts = l.drafts;
       number = λ i. number_is net h s v l (run-places net r) i (s.vis.records i).place refl;

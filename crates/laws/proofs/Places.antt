@@ -1,12 +1,13 @@
 -- A record's number and place are what the history counts, and 0 for what is not placed. Assumes nothing.
 use Rattle.std.proofs.Common.{◌≡◌, ℕ, suc, pred, cond, eqb, List, length, Some, None, sym, refl, ap, ◌∙◌, arith}
 use Rattle.std.specs.Option.{option_or}
+use Rattle.std.proofs.lemmas.List.{length-map}
 use Rattle.std.proofs.lemmas.Bool.{eq-eqb, ne_eqb}
 use Rattle.tables.specs.declared.Call.{Call}
 use Rattle.tables.specs.declared.Told.{Told}
 use Rattle.tables.specs.declared.Phase.TheVariants.{Waiting, Closing, Granted, Refused, Dropped}
 use Rattle.laws.specs.Lists.{put}
-use Rattle.laws.specs.Net.{Record, Net}
+use Rattle.laws.specs.Net.{Record, Placement, Net}
 use Rattle.laws.specs.Words.{opened, in_phase, drafting, reading_at, voting, redrafted, prepares, Event}
 use Rattle.laws.specs.State.{Visible, granted_record}
 use Rattle.laws.specs.History.{place_of, from_one}
@@ -15,7 +16,7 @@ use Rattle.laws.proofs.Model.{State, next, by_step, Logged, start, then}
 use Rattle.laws.proofs.Lists.{put_case, put_keeps}
 use Rattle.laws.proofs.Invariant.{Invariant}
 use Rattle.laws.proofs.Stand.{run_holds}
-use Rattle.laws.proofs.Histories.{txs, length_txs, Linked, run_linked}
+use Rattle.laws.proofs.Histories.{txs, Linked, run_linked}
 
 pub record Places (s : State) : Type 0 where
   pub place : (i : ℕ) → place_of i (txs s.placed) ≡ from_one (s.vis.records i).place
@@ -50,7 +51,7 @@ rule_places net {s} v l g (grants p m named r b one q e) =
     let w = granted_record s.vis i in
     record {
       place = put_case (λ j x. cond (eqb i j) (Some (suc (length (txs s.placed)))) (place_of j (txs s.placed)) ≡ from_one x.place) s.vis.records i w
-          (rw (eq-eqb i i refl) (ap (λ (n : ℕ). Some (suc n)) (length_txs s.placed ∙ sym l.last)))
+          (rw (eq-eqb i i refl) (ap (λ (n : ℕ). Some (suc n)) (length-map s.placed (λ (T : Placement). T.tx) ∙ sym l.last)))
           (λ j n. rw (ne_eqb i j n) (g.place j));
       number = put_case (λ j x. x.place ≡ 0 → x.number ≡ 0) s.vis.records i w (λ z. absurd (omega (arith, z))) (λ j _. g.number j);
     }
