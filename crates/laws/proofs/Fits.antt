@@ -1,6 +1,7 @@
 -- Whatever the net holds or sends is in range. Assumes nothing.
 use Rattle.std.proofs.Common.{◌≡◌, ℕ, suc, pred, ◌<◌, ◌≤◌, Bool, true, false, cond, not, ◌&&◌, eqb, ◌≢◌, ◌⊎◌, List, [], ◌∷◌, ◌++◌, length, Some, None, filter, find, Option, Result, sym, refl, subst, inl, inr, arith}
 use Rattle.std.specs.Option.{option_or}
+use Rattle.std.proofs.lemmas.List.Sums.{length-filter, count_by-le-length}
 use Rattle.clocks.specs.declared.Version.{Version}
 use Rattle.messages.specs.declared.Draft.{Draft}
 use Rattle.tables.specs.declared.Call.{Call}
@@ -46,14 +47,10 @@ module _ (net : Net) (ok : Content → Bool) where
 
   -- ## Lines
 
-  length-filter : {A : Type 0} (q : A → Bool) (xs : List A) → length (filter q xs) ≤ length xs
-  length-filter q [] = omega arith
-  length-filter q (x ∷ xs) = elim (q x) as (λ b. length (cond b (x ∷ filter q xs) (filter q xs)) ≤ length (x ∷ xs)) [ true ↦ omega (arith, length-filter q xs) | false ↦ omega (arith, length-filter q xs) ]
-
   homed_fit : (t : ℕ) (ds : List Draft) → FitLines net ok ds → FitLines net ok (homed net t ds)
   homed_fit t ds g = record {
     each = λ d q. g.each d (in_filter (λ d. eqb (net.home d.key) t) ds d q).0;
-    few = omega (arith, g.few, length-filter (λ d. eqb (net.home d.key) t) ds);
+    few = omega (arith, g.few, length-filter (λ d. eqb (net.home d.key) t) ds, count_by-le-length (λ d. eqb (net.home d.key) t) ds);
   }
 
   pub drafted_fit : (ds : List Draft) (k : ℕ) → ((d : Draft) → In d ds → (d.key < net.keys) × (ok d.content ≡ true)) → Drafted ds k → k < net.keys

@@ -25,7 +25,7 @@ use Rattle.laws.proofs.Stand.{run_holds, facts_stand}
 use Rattle.laws.proofs.Ranges.{run_ranges, message-begun}
 use Rattle.laws.proofs.Histories.{txs, Linked, run_linked}
 use Rattle.laws.proofs.Lawful.{count_told, placed_at, in_txs, told_of, bound_of, one, versions_are, within_of, of_within, origin_is, outside_of, lawful}
-use Rattle.laws.proofs.More.{More, run_more, below, filter_fewer}
+use Rattle.laws.proofs.More.{More, run_more, filter_fewer}
 use Rattle.laws.proofs.Early.{before-placed, before-begun, run_early}
 
 -- what holds of the model's runs holds of the visible ones
@@ -143,7 +143,7 @@ module _ (net : Net) (s : State) (v : Invariant net s) (g : More net s) where
       (y.0, y.1, subst (λ (z : Message). In z s.vis.air) y.2 q, el)
 
   held-room : (k i : ℕ) → Holds s.vis.held k i → length (s.vis.book k) < net.depth
-  held-room k i q = below (length (s.vis.book k)) net.depth (g.roomy k) (v.holders.room k i q)
+  held-room k i q = omega (arith, g.roomy k, v.holders.room k i q)
 
   outcome-room : (m : Message) (n : ℕ) (ls : List Draft) (k : ℕ) → In m s.vis.air → m.body ≡ granted n ls → Drafted ls k → length (s.vis.book k) < net.depth
   outcome-room m n ls k q b d =

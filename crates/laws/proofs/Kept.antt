@@ -311,8 +311,8 @@ keys_in [] k q = absurd q
 keys_in (h ∷ hs) k (inl e) = (h, inl refl, sym e)
 keys_in (h ∷ hs) k (inr q) = let r = keys_in hs k q in (r.0, inr r.1, r.2)
 
-pub held-once : Always HeldOnce
-held-once net h v r =
+pub held_once : Always HeldOnce
+held_once net h v r =
     let x = log_of net r in
     let s = x.0 in
     let i = run_holds net x.1 in

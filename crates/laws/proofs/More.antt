@@ -126,9 +126,6 @@ filter_fewer q f (x ∷ xs) = go (filter_fewer q f xs) (f x)
 
 -- ## Room
 
-pub below : (a b : ℕ) → a ≤ b → (a ≡ b → ⊥) → a < b
-below a b l n = omega (arith, l, n)
-
 -- a tower takes in what has its keys held
 added_roomy : (net : Net) (book : ℕ → List Version) (t : ℕ) (T : Placement) → ((k : ℕ) → drafts_of k T.drafts ≤ 1) → ((k : ℕ) → Drafted T.drafts k → net.home k ≡ t → length (book k) ≡ net.depth → ⊥) → Roomy net book → Roomy net (added net book t T)
 added_roomy net book t T tidy room g k = go (drafted? (homed net t T.drafts) k)
@@ -142,7 +139,7 @@ added_roomy net book t T tidy room g k = go (drafted? (homed net t T.drafts) k)
     go : Drafted (homed net t T.drafts) k ⊎ (Drafted (homed net t T.drafts) k → ⊥) → length (added net book t T k) ≤ net.depth
     go (inl d) =
         let x = homed-drafted net t T.drafts k d in
-        omega (arith, total, length-written T.tx T.origin T.number ls k, filter_fewer (λ d. eqb d.key k) (λ d. eqb (net.home d.key) t) T.drafts, tidy k, below (length (book k)) net.depth (g k) (room k x.0 x.1))
+        omega (arith, total, length-written T.tx T.origin T.number ls k, filter_fewer (λ d. eqb d.key k) (λ d. eqb (net.home d.key) t) T.drafts, tidy k, g k, room k x.0 x.1)
     go (inr n) = omega (arith, total, ap length (written_none T.tx T.origin T.number ls k n), g k)
 
 -- ## The steps

@@ -16,21 +16,16 @@ use Rattle.laws.specs.Words.{holds_of}
 use Rattle.laws.specs.View.{clock_of, clocks_of}
 use Rattle.laws.proofs.Lists.{put_same, put_other, last-append}
 
--- `v[i] = a`
-pub map-set : {A : Type 0} (xs : List A) (i : ℕ) (a d : A) → i < length xs → (λ (j : ℕ). get_or (set xs i a) j d) ≡ put (λ j. get_or xs j d) i a
-map-set xs i a d l = fun_ext (λ j. go j (cases_eq i j))
-  where
-    go : (j : ℕ) → (i ≡ j) ⊎ (i ≡ j → ⊥) → get_or (set xs i a) j d ≡ put (λ j. get_or xs j d) i a j
-    go j (inl e) = subst (λ (n : ℕ). get_or (set xs i a) n d ≡ a) e (get_or-set_same xs i a d l) ∙ sym (put_same (λ j. get_or xs j d) i a j e)
-    go j (inr n) = get_or-set_other xs i j a d (λ q. n (sym q)) ∙ sym (put_other (λ j. get_or xs j d) i a j n)
-
--- the same, where the map has a part of each element
+-- `v[i] = a`, where the map has a part of each element
 pub map_set_by : {A B : Type 0} (g : A → B) (xs : List A) (i : ℕ) (a d : A) (b : B) → i < length xs → g a ≡ b → (λ (j : ℕ). g (get_or (set xs i a) j d)) ≡ put (λ j. g (get_or xs j d)) i b
 map_set_by g xs i a d b l q = fun_ext (λ j. go j (cases_eq i j))
   where
     go : (j : ℕ) → (i ≡ j) ⊎ (i ≡ j → ⊥) → g (get_or (set xs i a) j d) ≡ put (λ j. g (get_or xs j d)) i b j
     go j (inl e) = ap g (subst (λ (n : ℕ). get_or (set xs i a) n d ≡ a) e (get_or-set_same xs i a d l)) ∙ q ∙ sym (put_same (λ j. g (get_or xs j d)) i b j e)
     go j (inr n) = ap g (get_or-set_other xs i j a d (λ q. n (sym q))) ∙ sym (put_other (λ j. g (get_or xs j d)) i b j n)
+
+pub map-set : {A : Type 0} (xs : List A) (i : ℕ) (a d : A) → i < length xs → (λ (j : ℕ). get_or (set xs i a) j d) ≡ put (λ j. get_or xs j d) i a
+map-set xs i a d l = map_set_by (λ x. x) xs i a d a l refl
 
 -- `v.push(a)`
 pub map_push : {A : Type 0} (xs : List A) (a d : A) → (λ (j : ℕ). get_or (xs ++ a ∷ []) j d) ≡ put (λ j. get_or xs j d) (length xs) a
@@ -58,13 +53,7 @@ without-cut (x ∷ xs) (suc i) = ap (λ l. x ∷ l) (without-cut xs i)
 -- `rows[t][o] = n`
 pub clocks-set : (rows : List (List ℕ)) (t o n : ℕ) → t < length rows → o < length (get_or rows t []) →
     clocks_of (set rows t (set (get_or rows t []) o n)) ≡ put (clocks_of rows) t (put (clocks_of rows t) o n)
-clocks-set rows t o n l m = fun_ext (λ u. go u (cases_eq t u))
-  where
-    go : (u : ℕ) → (t ≡ u) ⊎ (t ≡ u → ⊥) → clocks_of (set rows t (set (get_or rows t []) o n)) u ≡ put (clocks_of rows) t (put (clocks_of rows t) o n) u
-    go u (inl e) =
-        ap clock_of (subst (λ (v : ℕ). get_or (set rows t (set (get_or rows t []) o n)) v [] ≡ set (get_or rows t []) o n) e (get_or-set_same rows t (set (get_or rows t []) o n) [] l))
-        ∙ map-set (get_or rows t []) o n 0 m ∙ sym (put_same (clocks_of rows) t (put (clocks_of rows t) o n) u e)
-    go u (inr e) = ap clock_of (get_or-set_other rows t u (set (get_or rows t []) o n) [] (λ q. e (sym q))) ∙ sym (put_other (clocks_of rows) t (put (clocks_of rows t) o n) u e)
+clocks-set rows t o n l m = map_set_by clock_of rows t (set (get_or rows t []) o n) [] (put (clocks_of rows t) o n) l (map-set (get_or rows t []) o n 0 m)
 
 -- a loop over a book that keeps what is to be shown
 pub shown_more_in : (c : Clock) (book : List Version) (i : ℕ) (d : Version) → i < length book → (get_or book i d).number ≤ c (get_or book i d).origin → Some (get_or book i d) ≡ newest_within c (take (i + 1) book)
