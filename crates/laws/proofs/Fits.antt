@@ -18,7 +18,7 @@ use Rattle.tables.specs.declared.Held.{Held}
 use Rattle.laws.specs.Lists.{put, In, At, without}
 use Rattle.laws.specs.Net.{Clock, Record, Body, query, answer, prepare, vote, granted, Message, Placement, Net, Drafted, written, inside, newest_within, newest}
 use Rattle.laws.specs.Words.{opened, in_phase, drafting, reading_at, voting, placed_as, message, redrafted, homed, prepares, grants_to, refusals_to, Event, holds_of, freed, another_holds, held_conflict, newer_conflict, conflict_at}
-use Rattle.laws.specs.State.{granted_record, Visible}
+use Rattle.laws.specs.State.{granted_record, Visible, amended, sent, removed}
 use Rattle.laws.specs.Rules.{Rule, Step, Run, start, then, fails, obeys, begins, reads_own, asks, drafts, drops, closes_empty, closes, replies, receives, agrees, objects, counts, grants, refuses, takes_in, releases}
 use Rattle.laws.specs.Frames.{FitClock, FitVersion, FitLines, FitShown, FitNamed, FitBody, Fit, FitRecord, FitHeld, FitConflict, InRange, CallOk, CallsOk, NumbersInRange}
 use Rattle.laws.specs.Further.{Always}
@@ -163,14 +163,25 @@ module _ (net : Net) (ok : Content → Bool) where
       let p = in_refusals net i r n x h in
       subst (Fit net ok) (sym p.2) (record { tx = o; from = g.origin; to = omega (arith, p.1, l); bound = g.bound; body = tt })
 
-  -- a message that lands is answered by one that goes back
-  answered_by : (air : List Message) (p : ℕ) (m : Message) (c : Clock) (b : Body) → Mail air → At air p m → FitClock net c → FitBody net ok b → Mail (without air p ++ message m.tx m.to m.from c b ∷ [])
-  answered_by air p m c b g a f e =
-      let h = g m (in_at air p m a) in
-      each_append (Fit net ok) (without air p) _ (each_without (Fit net ok) air p g) (only (Fit net ok) (message m.tx m.to m.from c b) (record { tx = h.tx; from = h.to; to = h.from; bound = f; body = e }))
+  -- ## A state, changed at one place
 
   records-put : (rs : ℕ → Record) (i : ℕ) (r : Record) → ((i : ℕ) → FitRecord net ok (rs i)) → FitRecord net ok r → (j : ℕ) → FitRecord net ok (put rs i r j)
   records-put rs i r g f = put_all (FitRecord net ok) rs i r f g
+
+  amended_fit : (v : Visible) (i : ℕ) (r : Record) → InRange net ok v → FitRecord net ok r → InRange net ok (amended v i r)
+  amended_fit v i r g f = record { begun = g.begun; clocks = g.clocks; records = records-put v.records i r g.records f; book = g.book; held = g.held; air = g.air }
+
+  sent_fit : (v : Visible) (ms : List Message) → InRange net ok v → Mail ms → InRange net ok (sent v ms)
+  sent_fit v ms g f = record { begun = g.begun; clocks = g.clocks; records = g.records; book = g.book; held = g.held; air = each_append (Fit net ok) v.air ms g.air f }
+
+  removed_fit : (v : Visible) (p : ℕ) → InRange net ok v → InRange net ok (removed v p)
+  removed_fit v p g = record { begun = g.begun; clocks = g.clocks; records = g.records; book = g.book; held = g.held; air = each_without (Fit net ok) v.air p g.air }
+
+  -- a message that lands is answered by one that goes back
+  answered_fit : (v : Visible) (p : ℕ) (m : Message) (c : Clock) (b : Body) → InRange net ok v → At v.air p m → FitClock net c → FitBody net ok b → InRange net ok (sent (removed v p) (message m.tx m.to m.from c b ∷ []))
+  answered_fit v p m c b g a f e =
+      let h = g.air m (in_at v.air p m a) in
+      sent_fit (removed v p) _ (removed_fit v p g) (only (Fit net ok) _ (record { tx = h.tx; from = h.to; to = h.from; bound = f; body = e }))
 
   -- ## The steps
 
@@ -187,113 +198,50 @@ module _ (net : Net) (ok : Content → Bool) where
   rule_fits {v} op y g (asks i k o l n e) sm =
       let r = g.records i in
       let b : i < net.transactions = omega (arith, op i (differ Open Dropped refl o), g.begun) in
-      record {
-        begun = g.begun;
-        clocks = g.clocks;
-        records = records-put v.records i (in_phase Waiting (v.records i)) g.records (record { origin = r.origin; bound = r.bound; drafts = r.drafts; named = r.named });
-        book = g.book;
-        held = g.held;
-        air = each_append (Fit net ok) v.air _ g.air (only (Fit net ok) (message i (v.records i).origin (net.home k) (v.records i).bound (query k (not (v.records i).answered))) (record { tx = b; from = r.origin; to = net.housed k; bound = r.bound; body = l }));
-      }
+      sent_fit (amended v i (in_phase Waiting (v.records i))) _ (amended_fit v i _ g (record { origin = r.origin; bound = r.bound; drafts = r.drafts; named = r.named }))
+      (only (Fit net ok) _ (record { tx = b; from = r.origin; to = net.housed k; bound = r.bound; body = l }))
   rule_fits {v} op y g (drafts i k x o a l e) sm =
       let r = g.records i in
-      record {
-        begun = g.begun;
-        clocks = g.clocks;
-        records = records-put v.records i (drafting (redrafted k x (v.records i).drafts) (v.records i)) g.records (record { origin = r.origin; bound = r.bound; drafts = redrafted_fit k x (v.records i).drafts a y l r.drafts; named = r.named });
-        book = g.book;
-        held = g.held;
-        air = g.air;
-      }
-  rule_fits {v} op y g (drops i o e) sm =
-      let r = g.records i in
-      record {
-        begun = g.begun;
-        clocks = g.clocks;
-        records = records-put v.records i (in_phase Dropped (v.records i)) g.records (record { origin = r.origin; bound = r.bound; drafts = r.drafts; named = r.named });
-        book = g.book;
-        held = g.held;
-        air = g.air;
-      }
-  rule_fits {v} op y g (closes_empty i o n e) sm =
-      let r = g.records i in
-      record {
-        begun = g.begun;
-        clocks = g.clocks;
-        records = records-put v.records i (voting Granted 0 None (v.records i)) g.records (record { origin = r.origin; bound = r.bound; drafts = r.drafts; named = tt });
-        book = g.book;
-        held = g.held;
-        air = g.air;
-      }
+      amended_fit v i _ g (record { origin = r.origin; bound = r.bound; drafts = redrafted_fit k x (v.records i).drafts a y l r.drafts; named = r.named })
+  rule_fits {v} op y g (drops i o e) sm = let r = g.records i in amended_fit v i _ g (record { origin = r.origin; bound = r.bound; drafts = r.drafts; named = r.named })
+  rule_fits {v} op y g (closes_empty i o n e) sm = let r = g.records i in amended_fit v i _ g (record { origin = r.origin; bound = r.bound; drafts = r.drafts; named = tt })
   rule_fits {v} op y g (closes i o n e) sm =
       let r = g.records i in
       let ms = prepares net i (v.records i) net.towers in
       let b : i < net.transactions = omega (arith, op i (differ Open Dropped refl o), g.begun) in
-      record {
-        begun = g.begun;
-        clocks = g.clocks;
-        records = records-put v.records i (voting Closing (length ms) None (v.records i)) g.records (record { origin = r.origin; bound = r.bound; drafts = r.drafts; named = tt });
-        book = g.book;
-        held = g.held;
-        air = each_append (Fit net ok) v.air ms g.air (mail_prepares i (v.records i) net.towers b r (omega arith));
-      }
+      sent_fit (amended v i (voting Closing (length ms) None (v.records i))) ms (amended_fit v i _ g (record { origin = r.origin; bound = r.bound; drafts = r.drafts; named = tt }))
+      (mail_prepares i (v.records i) net.towers b r (omega arith))
   rule_fits {v} op y g (replies p m k first r b e) sm =
       let h = g.air m (in_at v.air p m r.there) in
       let c : Clock = cond first (v.clocks m.to) m.bound in
       let kb : k < net.keys = subst (FitBody net ok) b h.body in
-      record {
-        begun = g.begun;
-        clocks = g.clocks;
-        records = g.records;
-        book = g.book;
-        held = g.held;
-        air = answered_by v.air p m c (answer k (newest_within c (v.book k))) g.air r.there (clock_choice first (v.clocks m.to) m.bound (g.clocks m.to) h.bound) (kb, shown_fit c (v.book k) (g.book k));
-      }
+      answered_fit v p m c (answer k (newest_within c (v.book k))) g r.there (clock_choice first (v.clocks m.to) m.bound (g.clocks m.to) h.bound) (kb, shown_fit c (v.book k) (g.book k))
   rule_fits {v} op y g (receives p m k shown a b e) sm =
-      let h = g.air m (in_at v.air p m a) in
       let r = g.records m.tx in
-      record {
-        begun = g.begun;
-        clocks = g.clocks;
-        records = records-put v.records m.tx (reading_at m.bound (v.records m.tx)) g.records (record { origin = r.origin; bound = h.bound; drafts = r.drafts; named = r.named });
-        book = g.book;
-        held = g.held;
-        air = each_without (Fit net ok) v.air p g.air;
-      }
+      let w = amended_fit (removed v p) m.tx (reading_at m.bound (v.records m.tx)) (removed_fit v p g) (record { origin = r.origin; bound = (g.air m (in_at v.air p m a)).bound; drafts = r.drafts; named = r.named }) in
+      record { begun = w.begun; clocks = w.clocks; records = w.records; book = w.book; held = w.held; air = w.air }
   rule_fits {v} op y g (agrees p m lines r b n e) sm =
       let q = g.air m (in_at v.air p m r.there) in
       let f : FitBody net ok (prepare lines) = subst (FitBody net ok) b q.body in
+      let w = answered_fit v p m m.bound (vote None) g r.there q.bound tt in
       record {
-        begun = g.begun;
-        clocks = g.clocks;
-        records = g.records;
-        book = g.book;
+        begun = w.begun;
+        clocks = w.clocks;
+        records = w.records;
+        book = w.book;
         held = each_append (FitHeld net) v.held (holds_of m.tx m.from lines) g.held (holds_fit m.tx m.from lines q.tx q.from f.0.each);
-        air = answered_by v.air p m m.bound (vote None) g.air r.there (g.air m (in_at v.air p m r.there)).bound tt;
+        air = w.air;
       }
   rule_fits {v} op y g (objects p m lines k r b x e) sm =
       let h = g.air m (in_at v.air p m r.there) in
       let f : FitBody net ok (prepare lines) = subst (FitBody net ok) b h.body in
-      record {
-        begun = g.begun;
-        clocks = g.clocks;
-        records = g.records;
-        book = g.book;
-        held = g.held;
-        air = answered_by v.air p m m.bound (vote (Some k)) g.air r.there h.bound (let w = lines-found _ lines k x in (drafted_fit lines k.key f.0.each w.0, conflict_fit v.held (v.book k.key) m.bound m.tx k.key k.conflict g.held (g.book k.key) w.1));
-      }
+      let w = lines-found _ lines k x in
+      answered_fit v p m m.bound (vote (Some k)) g r.there h.bound (drafted_fit lines k.key f.0.each w.0, conflict_fit v.held (v.book k.key) m.bound m.tx k.key k.conflict g.held (g.book k.key) w.1)
   rule_fits {v} op y g (counts p m named r b l e) sm =
       let h = g.air m (in_at v.air p m r.there) in
       let x = g.records m.tx in
-      record {
-        begun = g.begun;
-        clocks = g.clocks;
-        records = records-put v.records m.tx (voting Closing (pred (v.records m.tx).awaited) (option_or (v.records m.tx).named named) (v.records m.tx)) g.records
-            (record { origin = x.origin; bound = x.bound; drafts = x.drafts; named = option_or_fit (v.records m.tx).named named x.named (subst (FitBody net ok) b h.body) });
-        book = g.book;
-        held = g.held;
-        air = each_without (Fit net ok) v.air p g.air;
-      }
+      amended_fit (removed v p) m.tx _ (removed_fit v p g)
+      (record { origin = x.origin; bound = x.bound; drafts = x.drafts; named = option_or_fit (v.records m.tx).named named x.named (subst (FitBody net ok) b h.body) })
   rule_fits {v} op y g (grants p m named r b l q e) sm =
       let h = g.air m (in_at v.air p m r.there) in
       let i = m.tx in
