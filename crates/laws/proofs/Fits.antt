@@ -1,5 +1,5 @@
 -- Whatever the net holds or sends is in range. Assumes nothing.
-use Rattle.std.proofs.Common.{◌≡◌, ℕ, suc, pred, ◌<◌, ◌≤◌, Bool, true, false, cond, not, ◌&&◌, eqb, ◌≢◌, ◌⊎◌, List, [], ◌∷◌, ◌++◌, length, Some, None, filter, find, Option, Result, sym, refl, subst, inl, inr, arith}
+use Rattle.std.proofs.Common.{◌≡◌, ℕ, suc, ◌<◌, ◌≤◌, Bool, true, false, cond, not, ◌&&◌, eqb, ◌≢◌, ◌⊎◌, List, [], ◌∷◌, length, Some, None, find, Option, Result, sym, refl, subst, inl, inr, arith}
 use Rattle.std.specs.Option.{option_or}
 use Rattle.std.proofs.lemmas.List.Sums.{length-filter, count_by-le-length}
 use Rattle.clocks.specs.declared.Version.{Version}
@@ -8,7 +8,7 @@ use Rattle.tables.specs.declared.Call.{Call}
 use Rattle.tables.specs.declared.Call.TheVariants.{Begin, Read, Draft as DraftCall, Close, Drop as DropCall, Deliver}
 use Rattle.faults.specs.declared.Cause.{Cause}
 use Rattle.tables.specs.declared.Told.{Told}
-use Rattle.tables.specs.declared.Phase.TheVariants.{Open, Waiting, Closing, Granted, Refused, Dropped}
+use Rattle.tables.specs.declared.Phase.TheVariants.{Open, Waiting, Closing, Refused, Dropped}
 use Rattle.messages.specs.declared.Objection.{Objection}
 use Rattle.clocks.specs.declared.Content.{Content}
 use Rattle.laws.proofs.Conflicts.{option_or_cases, first_is, lines-found}
@@ -16,8 +16,8 @@ use Rattle.messages.specs.declared.Conflict.{Conflict}
 use Rattle.messages.specs.declared.Conflict.TheVariants.{Held as HeldBy, Newer, Full}
 use Rattle.tables.specs.declared.Held.{Held}
 use Rattle.laws.specs.Lists.{put, In, At, without}
-use Rattle.laws.specs.Net.{Clock, Record, Body, query, answer, prepare, vote, granted, Message, Placement, Net, Drafted, written, inside, newest_within, newest}
-use Rattle.laws.specs.Words.{opened, in_phase, drafting, reading_at, voting, placed_as, message, redrafted, homed, prepares, grants_to, refusals_to, Event, holds_of, freed, another_holds, held_conflict, newer_conflict, conflict_at}
+use Rattle.laws.specs.Net.{Clock, Record, Body, answer, prepare, vote, granted, Message, Placement, Net, Drafted, written, inside, newest_within, newest}
+use Rattle.laws.specs.Words.{opened, in_phase, reading_at, voting, placed_as, message, redrafted, homed, prepares, grants_to, refusals_to, Event, holds_of, freed, another_holds, held_conflict, newer_conflict, conflict_at}
 use Rattle.laws.specs.State.{granted_record, Visible, amended, sent, removed}
 use Rattle.laws.specs.Rules.{Rule, Step, Run, start, then, fails, obeys, begins, reads_own, asks, drafts, drops, closes_empty, closes, replies, receives, agrees, objects, counts, grants, refuses, takes_in, releases}
 use Rattle.laws.specs.Frames.{FitClock, FitVersion, FitLines, FitShown, FitNamed, FitBody, Fit, FitRecord, FitHeld, FitConflict, InRange, CallOk, CallsOk, NumbersInRange}

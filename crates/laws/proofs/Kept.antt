@@ -1,5 +1,5 @@
 -- A key is held once, and what is granted with drafts is placed. Assumes nothing.
-use Rattle.std.proofs.Common.{◌≡◌, ℕ, zero, suc, pred, ◌+◌, ◌<◌, ◌≤◌, Bool, true, false, cond, not, ◌&&◌, eqb, ◌≢◌, ◌⊎◌, List, [], ◌∷◌, ◌++◌, map, length, Some, None, sym, refl, ap, ◌∙◌, subst, inl, inr, arith}
+use Rattle.std.proofs.Common.{◌≡◌, ℕ, zero, suc, pred, ◌+◌, ◌<◌, ◌≤◌, Bool, true, false, cond, not, ◌&&◌, eqb, ◌⊎◌, List, [], ◌∷◌, ◌++◌, map, length, Some, None, sym, refl, ap, ◌∙◌, subst, inl, inr, arith}
 use Rattle.std.specs.Option.{option_or}
 use Rattle.std.proofs.lemmas.List.{length-map}
 use Rattle.std.proofs.lemmas.Bool.{eq-eqb, ne_eqb, eqb-true, cases_eq, cases_Bool, both_ways, and_parts, and_from, and_left, and_right}
@@ -11,14 +11,14 @@ use Rattle.tables.specs.declared.Phase.TheVariants.{Open, Waiting, Closing, Gran
 use Rattle.laws.proofs.Conflicts.{Conflicts, taken_by, unopposed}
 use Rattle.laws.specs.Lists.{put, In, At, without, tally}
 use Rattle.laws.specs.Net.{Clock, Record, Body, query, answer, prepare, vote, granted, refused, Message, Placement, Net, Drafted, newest_within, has_closed, is_ballot}
-use Rattle.laws.specs.Words.{opened, in_phase, drafting, reading_at, voting, placed_as, message, redrafted, unless_none, holds_of, homed, freed, prepares, prepare_to, grants_to, refusals_to, Event}
+use Rattle.laws.specs.Words.{opened, in_phase, drafting, reading_at, voting, placed_as, message, redrafted, holds_of, homed, freed, prepares, grants_to, refusals_to, Event}
 use Rattle.laws.specs.History.{placed_in, number_of, number_in, place_of, from_one}
 use Rattle.laws.specs.Rules.{Run, Rule, agrees, asks, begins, closes, closes_empty, counts, drafts, drops, grants, receives, releases, reads_own, objects, refuses, replies, takes_in}
 use Rattle.laws.specs.State.{granted_record, Visible}
 use Rattle.laws.specs.Further.{Always, HeldOnce, RecordsAgree}
 use Rattle.laws.proofs.Model.{Logged, State, by_step, log_of, next, start, then}
 use Rattle.laws.proofs.Lists.{put_case, in_at, in_append, in_without, tally-append, tally_at, tally-none, none_left}
-use Rattle.laws.proofs.Sent.{each-prepare, each_grant, each-refusal}
+use Rattle.laws.proofs.Sent.{prepares-most, each-prepare, each_grant, each-refusal}
 use Rattle.laws.proofs.Placed.{drafted?, number_pos}
 use Rattle.laws.proofs.Invariant.{Holds, Invariant}
 use Rattle.laws.proofs.Frames.{differ, only, no_intent, holds_freed}
@@ -89,25 +89,6 @@ won_put P rs i r g f = put_case (λ j x. x.phase ≡ Granted → (x.drafts ≡ [
 
 -- ## A transaction closes
 
-prepares-most : (net : Net) (i : ℕ) (r : Record) (q : Message → Bool) (t : ℕ) → ((u : ℕ) → u ≢ t → q (prepare_to net i r u) ≡ false) → (n : ℕ) → (n ≤ t → tally q (prepares net i r n) ≡ 0) × (tally q (prepares net i r n) ≤ 1)
-prepares-most net i r q t f zero = ((λ _. refl), omega arith)
-prepares-most net i r q t f (suc n) =
-    let ih = prepares-most net i r q t f n in
-    let more = tally-append q (prepares net i r n) (unless_none (homed net n r.drafts) (prepare_to net i r n)) in
-    ((λ l. omega (arith, more, ih.0 (omega arith), none (homed net n r.drafts) (λ e. omega (arith, e, l)))), go more ih (cases_eq n t))
-  where
-    none : (ds : List Draft) → (n ≡ t → ⊥) → tally q (unless_none ds (prepare_to net i r n)) ≡ 0
-    none [] d = refl
-    none (x ∷ ds) d = rw (f n d)
-
-    most : (ds : List Draft) → tally q (unless_none ds (prepare_to net i r n)) ≤ 1
-    most [] = omega arith
-    most (x ∷ ds) = elim (q (prepare_to net i r n)) as (λ b. cond b 1 0 + 0 ≤ 1) [ true ↦ omega arith | false ↦ omega arith ]
-
-    go : tally q (prepares net i r (suc n)) ≡ tally q (prepares net i r n) + tally q (unless_none (homed net n r.drafts) (prepare_to net i r n)) → (n ≤ t → tally q (prepares net i r n) ≡ 0) × (tally q (prepares net i r n) ≤ 1) → (n ≡ t) ⊎ (n ≡ t → ⊥) → tally q (prepares net i r (suc n)) ≤ 1
-    go more ih (inl e) = omega (arith, more, ih.0 (omega arith), most (homed net n r.drafts))
-    go more ih (inr d) = omega (arith, more, ih.1, none (homed net n r.drafts) d)
-
 prepare_ballot : (b : Body) → is_prepare b ≡ true → is_ballot b ≡ true
 prepare_ballot (query k f) e = absurd (cc e)
 prepare_ballot (answer k v) e = absurd (cc e)
@@ -137,7 +118,7 @@ module _ (net : Net) (s : State) (i : ℕ) (v : Invariant net s) (g : Kept net s
         arith,
         tally-append (prepare_of j t) s.vis.air asks_of,
         tally-none (prepare_of j t) s.vis.air (quiet q),
-        (prepares-most net i (s.vis.records i) (prepare_of j t) t (λ u d. and_right (eqb i j) _ (and_left (eqb u t) _ (ne_eqb u t d))) net.towers).1,
+        prepares-most net i (s.vis.records i) (prepare_of j t) t (λ u d. and_right (eqb i j) _ (and_left (eqb u t) _ (ne_eqb u t d))) net.towers,
       )
       go (inr d) = omega (
         arith,

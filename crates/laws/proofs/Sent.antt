@@ -1,11 +1,11 @@
 -- What is sent to several towers: to whom, and why. Assumes nothing.
-use Rattle.std.proofs.Common.{◌≡◌, ℕ, zero, suc, ◌<◌, ◌≤◌, Bool, true, false, cond, eqb, ◌≢◌, List, [], ◌∷◌, length, sym, subst, refl, inl, inr, arith}
+use Rattle.std.proofs.Common.{◌≡◌, ℕ, zero, suc, ◌+◌, ◌<◌, ◌≤◌, Bool, true, false, cond, eqb, ◌≢◌, List, [], ◌∷◌, length, sym, subst, refl, inl, inr, arith}
 use Rattle.std.proofs.lemmas.Bool.{eqb-false}
 use Rattle.messages.specs.declared.Draft.{Draft}
-use Rattle.laws.specs.Lists.{In}
+use Rattle.laws.specs.Lists.{In, tally}
 use Rattle.laws.specs.Net.{Record, Message, Placement, Net}
 use Rattle.laws.specs.Words.{unless_none, homed, prepare_to, granted_to, refused_to, prepares, grants_to, refusals_to}
-use Rattle.laws.proofs.Lists.{in_append}
+use Rattle.laws.proofs.Lists.{in_append, tally_parts}
 
 in_unless : (ds : List Draft) (m x : Message) → In x (unless_none ds m) → (1 ≤ length ds) × (x ≡ m)
 in_unless [] m x h = absurd h
@@ -52,3 +52,27 @@ each_grant net T n Q f = each_away net T n Q (λ t _. f t)
 
 pub each-refusal : (net : Net) (i : ℕ) (r : Record) (n : ℕ) (Q : Message → Type 0) → ((t : ℕ) → Q (refused_to net i r t)) → (x : Message) → In x (refusals_to net i r n) → Q x
 each-refusal net i r n Q f x h = let p = in_refusals net i r n x h in subst Q (sym p.2) (f p.0)
+
+-- ## Only what is sent to one tower passes, and it is one message at most
+
+one : (b : Bool) → cond b 1 0 + 0 ≤ 1
+one true = omega arith
+one false = omega arith
+
+tally_unless : (q : Message → Bool) (ds : List Draft) (m : Message) → (tally q (unless_none ds m) ≤ 1) × (q m ≡ false → tally q (unless_none ds m) ≡ 0)
+tally_unless q [] m = (omega arith, λ _. refl)
+tally_unless q (d ∷ ds) m = (one (q m), λ e. rw e)
+
+tally_other : (q : Message → Bool) (b : Bool) (m : Message) → (tally q (cond b [] (m ∷ [])) ≤ 1) × (q m ≡ false → tally q (cond b [] (m ∷ [])) ≡ 0)
+tally_other q true m = (omega arith, λ _. refl)
+tally_other q false m = (one (q m), λ e. rw e)
+
+pub prepares-most : (net : Net) (i : ℕ) (r : Record) (q : Message → Bool) (t : ℕ) → ((u : ℕ) → u ≢ t → q (prepare_to net i r u) ≡ false) → (n : ℕ) → tally q (prepares net i r n) ≤ 1
+prepares-most net i r q t f n =
+    let part : (u : ℕ) → _ = λ u. tally_unless q (homed net u r.drafts) (prepare_to net i r u) in
+    (tally_parts q (prepares net i r) (λ u. unless_none (homed net u r.drafts) (prepare_to net i r u)) refl (λ _. refl) t (λ u d. (part u).1 (f u d)) (part t).0 n).1
+
+pub grants-most : (net : Net) (T : Placement) (q : Message → Bool) (t : ℕ) → ((u : ℕ) → u ≢ t → q (granted_to net T u) ≡ false) → (n : ℕ) → tally q (grants_to net T n) ≤ 1
+grants-most net T q t f n =
+    let part : (u : ℕ) → _ = λ u. tally_other q (eqb u T.origin) (granted_to net T u) in
+    (tally_parts q (grants_to net T) (λ u. cond (eqb u T.origin) [] (granted_to net T u ∷ [])) refl (λ _. refl) t (λ u d. (part u).1 (f u d)) (part t).0 n).1
