@@ -1,6 +1,6 @@
 -- A key is held once, and what is granted with drafts is placed. Assumes nothing.
-use Rattle.std.proofs.Common.{◌≡◌, ℕ, zero, suc, pred, ◌+◌, ◌<◌, ◌≤◌, Bool, true, false, cond, not, ◌&&◌, eqb, ◌⊎◌, List, [], ◌∷◌, ◌++◌, map, length, Some, None, sym, refl, ap, ◌∙◌, subst, inl, inr, arith}
-use Rattle.std.specs.Option.{option_or}
+use Rattle.std.proofs.Common.{◌≡◌, ℕ, pred, ◌+◌, ◌<◌, ◌≤◌, Bool, true, false, cond, not, ◌&&◌, eqb, ◌⊎◌, List, [], ◌∷◌, ◌++◌, map, length, Some, None, Option, sym, refl, ap, ◌∙◌, subst, inl, inr, arith}
+use Rattle.std.specs.Option.{option_or, unwrap_or}
 use Rattle.std.proofs.lemmas.List.{length-map}
 use Rattle.std.proofs.lemmas.Bool.{eq-eqb, ne_eqb, eqb-true, cases_eq, cases_Bool, both_ways, and_parts, and_from, and_left, and_right}
 use Rattle.messages.specs.declared.Draft.{Draft}
@@ -12,7 +12,7 @@ use Rattle.laws.proofs.Conflicts.{Conflicts, taken_by, unopposed}
 use Rattle.laws.specs.Lists.{put, In, At, without, tally}
 use Rattle.laws.specs.Net.{Clock, Record, Body, query, answer, prepare, vote, granted, refused, Message, Placement, Net, Drafted, newest_within, has_closed, is_ballot}
 use Rattle.laws.specs.Words.{opened, in_phase, drafting, reading_at, voting, placed_as, message, redrafted, holds_of, homed, freed, prepares, grants_to, refusals_to, Event}
-use Rattle.laws.specs.History.{placed_in, number_of, number_in, place_of, from_one}
+use Rattle.laws.specs.History.{placed_in, number_of, number_in, place_of}
 use Rattle.laws.specs.Rules.{Run, Rule, agrees, asks, begins, closes, closes_empty, counts, drafts, drops, grants, receives, releases, reads_own, objects, refuses, replies, takes_in}
 use Rattle.laws.specs.State.{granted_record, Visible}
 use Rattle.laws.specs.Further.{Always, HeldOnce, RecordsAgree}
@@ -321,18 +321,17 @@ number-none h i (j ∷ is) e = elim (cases_eq j i) [
   | inr q ↦ rw (ne_eqb j i q) (number-none h i is (rw (ne_eqb j i q) at e))
 ]
 
-counts-from_one : (n : ℕ) → 1 ≤ n → from_one n ≡ Some n
-counts-from_one zero l = absurd (omega (arith, l))
-counts-from_one (suc n) l = refl
+has_number : (o : Option ℕ) (n : ℕ) → 1 ≤ n → n ≡ unwrap_or o 0 → Some n ≡ o
+has_number None n l e = absurd (omega (arith, l, e))
+has_number (Some m) n l e = ap Some e
 
-number_is : (net : Net) (h : List Event) (s : State) → Invariant net s → Linked h s → Places s → (i n : ℕ) → (s.vis.records i).place ≡ n → number_in h i ≡ from_one (s.vis.records i).number
-number_is net h s v l g i zero e =
-    number-none h i (placed_in h) (ap (place_of i) (sym l.placed) ∙ g.place i ∙ ap from_one e) ∙ sym (ap from_one (g.number i e))
-number_is net h s v l g i (suc n) e =
-    let y = placed_at s.placed i (place_in i (suc n) (txs s.placed) (g.place i ∙ ap from_one e)) in
+number_is : (net : Net) (h : List Event) (s : State) → Invariant net s → Linked h s → Places s → (i : ℕ) (o : Option ℕ) → (s.vis.records i).place ≡ o → number_in h i ≡ (s.vis.records i).number
+number_is net h s v l g i None e = number-none h i (placed_in h) (ap (place_of i) (sym l.placed) ∙ g.place i ∙ e) ∙ sym (g.number i e)
+number_is net h s v l g i (Some n) e =
+    let y = placed_at s.placed i (place_in i n (txs s.placed) (g.place i ∙ e)) in
     let E = y.0 in
-    let q : E.number ≡ (s.vis.records i).number = ap (λ (F : Placement). F.number) (v.granteds E y.1).1 ∙ ap (λ (j : ℕ). (s.vis.records j).number) y.2 in
-    ap (number_in h) (sym y.2) ∙ numbered_as net h s v l E y.1 ∙ sym (counts-from_one E.number (number_pos s.placed E v.order.numbered y.1)) ∙ ap from_one q
+    let q : E.number ≡ unwrap_or (s.vis.records i).number 0 = ap (λ (F : Placement). F.number) (v.granteds E y.1).1 ∙ ap (λ (j : ℕ). unwrap_or (s.vis.records j).number 0) y.2 in
+    ap (number_in h) (sym y.2) ∙ numbered_as net h s v l E y.1 ∙ has_number (s.vis.records i).number E.number (number_pos s.placed E v.order.numbered y.1) q
 
 agree : (net : Net) (h : List Event) (s : State) → Logged net h s → RecordsAgree net h s.vis
 agree net h s r =

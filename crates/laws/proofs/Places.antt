@@ -1,4 +1,4 @@
--- A record's number and place are what the history counts, and 0 for what is not placed. Assumes nothing.
+-- A record's number and place are what the history counts, and none for what is not placed. Assumes nothing.
 use Rattle.std.proofs.Common.{◌≡◌, ℕ, suc, pred, cond, eqb, List, length, Some, None, sym, refl, ap, ◌∙◌, arith}
 use Rattle.std.specs.Option.{option_or}
 use Rattle.std.proofs.lemmas.List.{length-map}
@@ -10,7 +10,7 @@ use Rattle.laws.specs.Lists.{put}
 use Rattle.laws.specs.Net.{Record, Placement, Net}
 use Rattle.laws.specs.Words.{opened, in_phase, drafting, reading_at, voting, redrafted, prepares, Event}
 use Rattle.laws.specs.State.{Visible, granted_record}
-use Rattle.laws.specs.History.{place_of, from_one}
+use Rattle.laws.specs.History.{place_of}
 use Rattle.laws.specs.Rules.{Rule, begins, reads_own, asks, drafts, drops, closes_empty, closes, replies, receives, agrees, objects, counts, grants, refuses, takes_in, releases}
 use Rattle.laws.proofs.Model.{State, next, by_step, Logged, start, then}
 use Rattle.laws.proofs.Lists.{put_case, put_keeps}
@@ -19,14 +19,14 @@ use Rattle.laws.proofs.Stand.{run_holds}
 use Rattle.laws.proofs.Histories.{txs, Linked, run_linked}
 
 pub record Places (s : State) : Type 0 where
-  pub place : (i : ℕ) → place_of i (txs s.placed) ≡ from_one (s.vis.records i).place
-  pub number : (i : ℕ) → (s.vis.records i).place ≡ 0 → (s.vis.records i).number ≡ 0
+  pub place : (i : ℕ) → place_of i (txs s.placed) ≡ (s.vis.records i).place
+  pub number : (i : ℕ) → (s.vis.records i).place ≡ None → (s.vis.records i).number ≡ None
 
 -- a record is changed in neither number nor place
 kept : (s : State) (i : ℕ) (r : Record) → r.place ≡ (s.vis.records i).place → r.number ≡ (s.vis.records i).number → Places s →
-    ((j : ℕ) → place_of j (txs s.placed) ≡ from_one (put s.vis.records i r j).place) × ((j : ℕ) → (put s.vis.records i r j).place ≡ 0 → (put s.vis.records i r j).number ≡ 0)
+    ((j : ℕ) → place_of j (txs s.placed) ≡ (put s.vis.records i r j).place) × ((j : ℕ) → (put s.vis.records i r j).place ≡ None → (put s.vis.records i r j).number ≡ None)
 kept s i r p n g = (
-  (λ j. g.place j ∙ ap from_one (sym (put_keeps (λ x. x.place) s.vis.records i r p j))),
+  (λ j. g.place j ∙ sym (put_keeps (λ x. x.place) s.vis.records i r p j)),
   (λ j e. put_keeps (λ x. x.number) s.vis.records i r n j ∙ g.number j (sym (put_keeps (λ x. x.place) s.vis.records i r p j) ∙ e)),
 )
 
@@ -50,10 +50,10 @@ rule_places net {s} v l g (grants p m named r b one q e) =
     let i = m.tx in
     let w = granted_record s.vis i in
     record {
-      place = put_case (λ j x. cond (eqb i j) (Some (suc (length (txs s.placed)))) (place_of j (txs s.placed)) ≡ from_one x.place) s.vis.records i w
+      place = put_case (λ j x. cond (eqb i j) (Some (suc (length (txs s.placed)))) (place_of j (txs s.placed)) ≡ x.place) s.vis.records i w
           (rw (eq-eqb i i refl) (ap (λ (n : ℕ). Some (suc n)) (length-map s.placed (λ (T : Placement). T.tx) ∙ sym l.last)))
           (λ j n. rw (ne_eqb i j n) (g.place j));
-      number = put_case (λ j x. x.place ≡ 0 → x.number ≡ 0) s.vis.records i w (λ z. absurd (omega (arith, z))) (λ j _. g.number j);
+      number = put_case (λ j x. x.place ≡ None → x.number ≡ None) s.vis.records i w (λ z. absurd (cc z)) (λ j _. g.number j);
     }
 rule_places net {s} v l g (refuses p m named x r b one q e) = let k = kept s m.tx (voting Refused 0 (Some x) (s.vis.records m.tx)) refl refl g in record { place = k.0; number = k.1 }
 rule_places net {s} v l g (takes_in p m n lines r b q e) = record { place = g.place; number = g.number }

@@ -12,7 +12,7 @@ use Rattle.tables.specs.declared.Phase.TheVariants.{Waiting, Closing, Granted, R
 use Rattle.laws.specs.Lists.{In, At, tally}
 use Rattle.laws.specs.Net.{Body, query, answer, prepare, vote, granted, refused, Message, Net, ◌⊑◌, Drafted, has_closed, ballots, is_ballot, pending_of}
 use Rattle.laws.specs.Words.{Event}
-use Rattle.laws.specs.History.{placed_in, begun_in, placed_before_in, origin_in, drafts_in, number_in, place_in, from_one, Within, Outside}
+use Rattle.laws.specs.History.{placed_in, begun_in, placed_before_in, origin_in, drafts_in, number_in, place_in, Within, Outside}
 use Rattle.laws.specs.State.{Visible}
 use Rattle.laws.specs.Rules.{Step, Run}
 
@@ -110,8 +110,8 @@ pub record RecordsAgree (net : Net) (h : List Event) (v : Visible) : Type 0 wher
   pub last : v.last ≡ length (placed_in h)
   pub origin : (i : ℕ) → (v.records i).origin ≡ origin_in h i
   pub drafts : (i : ℕ) → (v.records i).drafts ≡ drafts_in h i
-  pub number : (i : ℕ) → number_in h i ≡ from_one (v.records i).number
-  pub place : (i : ℕ) → place_in h i ≡ from_one (v.records i).place
+  pub number : (i : ℕ) → number_in h i ≡ (v.records i).number
+  pub place : (i : ℕ) → place_in h i ≡ (v.records i).place
   pub placed : (x : ℕ) → In x (placed_in h) → (v.records x).phase ≡ Granted
   pub granted : (i : ℕ) → (v.records i).phase ≡ Granted → (drafts_in h i ≡ []) ⊎ In i (placed_in h)
 

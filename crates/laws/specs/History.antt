@@ -1,5 +1,5 @@
 -- What a history tells. A history has each call with what it told, the newest first.
-use Rattle.std.specs.Prelude.{◌≡◌, ℕ, zero, suc, ◌<◌, ◌≤◌, Bool, true, false, cond, ◌⊎◌, List, [], ◌∷◌, ◌++◌, length, Some, None, Ok, Err, Option, Result, ◌==◌, nat_eq}
+use Rattle.std.specs.Prelude.{◌≡◌, ℕ, suc, ◌<◌, ◌≤◌, Bool, true, false, cond, ◌⊎◌, List, [], ◌∷◌, ◌++◌, length, Some, None, Ok, Err, Option, Result, ◌==◌, nat_eq}
 use Rattle.clocks.specs.declared.Content.{Content}
 use Rattle.clocks.specs.declared.Version.{Version}
 use Rattle.messages.specs.declared.Draft.{Draft}
@@ -157,11 +157,6 @@ place_of i (j ∷ js) = cond (j == i) (Some (suc (length js))) (place_of i js)
 
 abbrev pub place_in : List Event → ℕ → Option ℕ
 place_in h i = place_of i (placed_in h)
-
--- a count from 1, where 0 stands for none
-abbrev pub from_one : ℕ → Option ℕ
-from_one zero = None
-from_one (suc n) = Some (suc n)
 
 -- a transaction is within a bound, or outside it: it has no number, or one above the entry of its origin
 abbrev pub Within : List Event → ℕ → Clock → Type 0

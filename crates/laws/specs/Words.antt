@@ -1,6 +1,6 @@
 -- Records and messages, as the calls change and send them.
 use Rattle.std.specs.Prelude.{ℕ, zero, suc, Bool, true, false, cond, not, ◌&&◌, List, [], ◌∷◌, ◌++◌, length, Some, None, filter, find, Option, Result, ◌==◌, nat_eq}
-use Rattle.std.specs.Option.{option_or}
+use Rattle.std.specs.Option.{option_or, unwrap_or}
 use Rattle.laws.specs.Net.{Clock, Record, Body, prepare, granted, refused, Message, Placement, Net, inside, newest}
 use Rattle.clocks.specs.declared.Content.{Content}
 use Rattle.clocks.specs.declared.Version.{Version}
@@ -18,10 +18,10 @@ use Rattle.tables.specs.declared.Told.{Told}
 -- ## A record, changed at one place
 
 abbrev pub blank : Record
-blank = record { origin = 0; phase = Dropped; bound = λ _. 0; answered = false; drafts = []; awaited = 0; named = None; number = 0; place = 0 }
+blank = record { origin = 0; phase = Dropped; bound = λ _. 0; answered = false; drafts = []; awaited = 0; named = None; number = None; place = None }
 
 abbrev pub opened : ℕ → Clock → Record
-opened t c = record { origin = t; phase = Open; bound = c; answered = false; drafts = []; awaited = 0; named = None; number = 0; place = 0 }
+opened t c = record { origin = t; phase = Open; bound = c; answered = false; drafts = []; awaited = 0; named = None; number = None; place = None }
 
 abbrev pub in_phase : Phase → Record → Record
 in_phase p r = record { origin = r.origin; phase = p; bound = r.bound; answered = r.answered; drafts = r.drafts; awaited = r.awaited; named = r.named; number = r.number; place = r.place }
@@ -36,8 +36,9 @@ reading_at c r = record { origin = r.origin; phase = Open; bound = c; answered =
 abbrev pub voting : Phase → ℕ → Option Objection → Record → Record
 voting p a o r = record { origin = r.origin; phase = p; bound = r.bound; answered = r.answered; drafts = r.drafts; awaited = a; named = o; number = r.number; place = r.place }
 
+-- the transaction i, as its record says; one that is placed has a number
 abbrev pub placed_as : ℕ → Record → Placement
-placed_as i r = record { tx = i; origin = r.origin; number = r.number; bound = r.bound; drafts = r.drafts }
+placed_as i r = record { tx = i; origin = r.origin; number = unwrap_or r.number 0; bound = r.bound; drafts = r.drafts }
 
 -- ## What is sent
 
