@@ -1,5 +1,6 @@
 -- Whatever is called in a net that a run has reached, there is something to tell. Assumes nothing.
-use Rattle.std.proofs.Common.{◌≡◌, ℕ, zero, suc, ◌<◌, ◌≤◌, Bool, true, false, ltb, leb, List, [], ◌∷◌, length, Some, None, Option, sym, refl, subst, inl, inr, arith}
+use Rattle.std.proofs.Common.{◌≡◌, ℕ, zero, suc, ◌<◌, ◌≤◌, Bool, true, false, ltb, leb, List, [], ◌∷◌, length, Some, None, Ok, Option, Result, sym, refl, subst, inl, inr, arith}
+use Rattle.std.specs.Option.{option_or}
 use Rattle.std.specs.List.{slice_get}
 use Rattle.std.proofs.lemmas.Bool.{eqb-true, ltb-true, leb-true, cases_eq, cases_lt, and_parts}
 use Rattle.faults.specs.declared.Cause.{Cause}
@@ -10,7 +11,7 @@ use Rattle.tables.specs.declared.Phase.TheVariants.{Open, Waiting, Closing, Gran
 use Rattle.tables.specs.declared.Call.{Call}
 use Rattle.tables.specs.declared.Call.TheVariants.{Begin, Read, Draft as DraftCall, Close, Drop as DropCall, Deliver}
 use Rattle.tables.specs.declared.Told.{Told}
-use Rattle.laws.specs.Lists.{At, either}
+use Rattle.laws.specs.Lists.{At}
 use Rattle.laws.specs.Net.{Clock, Body, query, answer, prepare, vote, granted, refused, Message, Net}
 use Rattle.laws.specs.Words.{draft_of, redrafted, Event}
 use Rattle.laws.specs.State.{Visible}
@@ -18,7 +19,6 @@ use Rattle.laws.specs.Faults.{unless, is_open, covers_first, ripe, unless_open, 
 use Rattle.laws.specs.Rules.{objection, Ripe, Rule, Step, fails, obeys, Run, begins, reads_own, asks, drafts, drops, closes_empty, closes, replies, receives, agrees, objects, counts, grants, refuses, takes_in, releases}
 use Rattle.laws.specs.Further.{Always, EveryCallAnswered}
 use Rattle.laws.proofs.Lists.{in_at}
-use Rattle.laws.proofs.Conflicts.{none-some}
 use Rattle.laws.proofs.Further.{closing_awaits, messages_at_home}
 use Rattle.laws.proofs.Fits.{in_range}
 
@@ -26,15 +26,15 @@ use Rattle.laws.proofs.Fits.{in_range}
 
 pub passes : (b : Bool) (f : Cause) (o : Option Cause) → unless b f o ≡ None → (b ≡ true) × (o ≡ None)
 passes true f o e = (refl, e)
-passes false f o e = absurd (none-some e refl)
+passes false f o e = absurd (cc e)
 
 pub open_is : (p : Phase) → is_open p ≡ true → p ≡ Open
 open_is Open e = refl
-open_is Waiting e = let z : ◌≡◌ {A = ℕ} 0 1 = cc e in absurd (omega (arith, z))
-open_is Closing e = let z : ◌≡◌ {A = ℕ} 0 1 = cc e in absurd (omega (arith, z))
-open_is Granted e = let z : ◌≡◌ {A = ℕ} 0 1 = cc e in absurd (omega (arith, z))
-open_is Refused e = let z : ◌≡◌ {A = ℕ} 0 1 = cc e in absurd (omega (arith, z))
-open_is Dropped e = let z : ◌≡◌ {A = ℕ} 0 1 = cc e in absurd (omega (arith, z))
+open_is Waiting e = absurd (cc e)
+open_is Closing e = absurd (cc e)
+open_is Granted e = absurd (cc e)
+open_is Refused e = absurd (cc e)
+open_is Dropped e = absurd (cc e)
 
 pub passes_open : (net : Net) (v : Visible) (i : ℕ) (o : Option Cause) → unless_open net v i o ≡ None → ((v.records i).phase ≡ Open) × (o ≡ None)
 passes_open net v i o e =
@@ -43,7 +43,7 @@ passes_open net v i o e =
     (open_is (v.records i).phase b.0, b.1)
 
 pub nth_at : {A : Type 0} (xs : List A) (p : ℕ) (x : A) → slice_get xs p ≡ Some x → At xs p x
-nth_at [] p x e = absurd (none-some refl e)
+nth_at [] p x e = absurd (cc e)
 nth_at (y ∷ xs) zero x e = let q : y ≡ x = cc e in sym q
 nth_at (y ∷ xs) (suc p) x e = nth_at xs p x e
 
@@ -77,13 +77,13 @@ module _ (net : Net) (h : List Event) (v : Visible) (run : Run net h v) where
 
   closings : (i : ℕ) → (v.records i).phase ≡ Open → (ds : List Draft) → (v.records i).drafts ≡ ds → Ruled (Close i)
   closings i o [] e = (_, _, closes_empty i o e refl)
-  closings i o (d ∷ ds) e = (_, _, closes i o (λ q. let z : ◌≡◌ {A = ℕ} 0 1 = cc (e, q) in omega (arith, z)) refl)
+  closings i o (d ∷ ds) e = (_, _, closes i o (λ q. cc (e, q)) refl)
 
   prepared : (p : ℕ) (m : Message) (lines : List Draft) → m.body ≡ prepare lines → Ripe net v p m → (o : Option Objection) → objection net v m lines ≡ o → Ruled (Deliver p)
   prepared p m lines e r None q = (_, _, agrees p m lines r e q refl)
   prepared p m lines e r (Some x) q = (_, _, objects p m lines x r e q refl)
 
-  decided : (p : ℕ) (m : Message) (named : Option Objection) → m.body ≡ vote named → Ripe net v p m → (v.records m.tx).awaited ≡ 1 → (o : Option Objection) → either (v.records m.tx).named named ≡ o → Ruled (Deliver p)
+  decided : (p : ℕ) (m : Message) (named : Option Objection) → m.body ≡ vote named → Ripe net v p m → (v.records m.tx).awaited ≡ 1 → (o : Option Objection) → option_or (v.records m.tx).named named ≡ o → Ruled (Deliver p)
   decided p m named e r one None q = (_, _, grants p m named r e one q refl)
   decided p m named e r one (Some x) q = (_, _, refuses p m named x r e one q refl)
 
@@ -92,7 +92,7 @@ module _ (net : Net) (h : List Event) (v : Visible) (run : Run net h v) where
       let x = (messages_at_home net h v run m (in_at v.air p m r.there)).phase in
       let w = (closing_awaits net h v run m.tx (rw e at x)).some in
       elim (cases_eq (v.records m.tx).awaited 1) [
-        | inl one ↦ decided p m named e r one (either (v.records m.tx).named named) refl
+        | inl one ↦ decided p m named e r one (option_or (v.records m.tx).named named) refl
         | inr more ↦ (_, _, counts p m named r e (omega (arith, w, more)) refl)
       ]
 
@@ -107,7 +107,7 @@ module _ (net : Net) (h : List Event) (v : Visible) (run : Run net h v) where
       (_, _, takes_in p m n lines (covered p m a x.0) e (eqb-true _ _ x.1) refl)
 
   deliveries : (p : ℕ) (o : Option Message) → slice_get v.air p ≡ o → message_fault net v p o ≡ None → Ruled (Deliver p)
-  deliveries p None q e = absurd (none-some e refl)
+  deliveries p None q e = absurd (cc e)
   deliveries p (Some m) q e = delivered p m (nth_at v.air p m q) m.body refl (passes (ripe net.entries (v.clocks m.to) m) _ _ e).0
 
   -- a call that no check turns down is obeyed
@@ -129,6 +129,6 @@ module _ (net : Net) (h : List Event) (v : Visible) (run : Run net h v) where
 pub every_call_answered : Always EveryCallAnswered
 every_call_answered net h v run c = go (first_fault net v c) refl
   where
-    go : (o : Option Cause) → first_fault net v c ≡ o → (a : Told) × (v' : Visible) × Step net v v' c a
+    go : (o : Option Cause) → first_fault net v c ≡ o → (a : Result Told Cause) × (v' : Visible) × Step net v v' c a
     go (Some f) e = (_, v, fails f e refl)
-    go None e = let r = obeyed net h v run c e in (r.0, r.1, obeys e r.2)
+    go None e = let r = obeyed net h v run c e in (Ok r.0, r.1, obeys e r.2)

@@ -1,19 +1,18 @@
 -- The calls that deliver nothing keep the invariant. Assumes nothing.
-use Rattle.std.proofs.Common.{◌≡◌, ℕ, zero, suc, ◌<◌, Bool, true, false, cond, not, ◌&&◌, eqb, ◌≢◌, ◌⊎◌, List, [], ◌∷◌, ◌++◌, length, Some, None, Option, sym, refl, ap, ◌∙◌, subst, inl, inr, arith}
+use Rattle.std.proofs.Common.{◌≡◌, ℕ, zero, suc, ◌<◌, Bool, true, false, cond, not, ◌&&◌, eqb, ◌≢◌, ◌⊎◌, List, [], ◌∷◌, ◌++◌, length, Some, None, sym, refl, ap, ◌∙◌, inl, inr, arith}
 use Rattle.std.proofs.lemmas.Bool.{eq-eqb, ne_eqb, eqb-true, eqb-false, cases_eq, cases_Bool, both_ways, and_left, and_from, and_parts}
-use Rattle.clocks.specs.declared.Version.{Version}
 use Rattle.messages.specs.declared.Draft.{Draft}
 use Rattle.tables.specs.declared.Phase.TheVariants.{Open, Waiting, Closing, Granted, Refused, Dropped}
 use Rattle.messages.specs.declared.Objection.{Objection}
-use Rattle.laws.proofs.Conflicts.{none-some}
 use Rattle.laws.specs.Lists.{put, In, tally}
-use Rattle.laws.specs.Net.{Record, Body, query, answer, prepare, vote, refused, Message, Net, Drafted, has_closed}
+use Rattle.laws.specs.Net.{Record, query, vote, refused, Message, Net, Drafted, has_closed}
 use Rattle.laws.proofs.Model.{State, on}
 use Rattle.laws.specs.State.{amended}
 use Rattle.laws.specs.Rules.{asked, begun_at, closed}
 use Rattle.laws.specs.Words.{blank, opened, in_phase, drafting, voting, message, unless_none, homed, prepare_to, prepares}
 use Rattle.laws.proofs.Lists.{put_same, put_other, put_case, in_left, in_right, in_append, tally-append, tally-none}
-use Rattle.laws.proofs.Invariant.{intents, is_read, is_ballot, is_granted, is_refused, polled, reads, ballots, Holds, Ballot, Votes, Justified, Invariant}
+use Rattle.laws.proofs.Sent.{each-prepare}
+use Rattle.laws.proofs.Invariant.{intents, is_read, is_ballot, is_granted, polled, reads, ballots, Holds, Ballot, Votes, Justified, Invariant}
 use Rattle.laws.proofs.Frames.{same-put, holders_same, granteds_put, bounds-put, unbegun_put, votes_put, reads-put, refusals_put, votes_sent, reads-sent, outcomes_sent, refusals_sent, differ, only, reads_more}
 
 -- what a call other than a close does to an open transaction
@@ -47,7 +46,7 @@ drops_keeps net s i v o = amend_open net s i (in_phase Dropped (s.vis.records i)
   answered = refl;
   going = differ Dropped Closing refl refl;
   unrefused = differ Dropped Refused refl refl;
-  unnamed = λ k t n. both_ways false refl t;
+  unnamed = λ k t n. cc t;
 })
 
 pub drafts_keeps : (net : Net) (s : State) (i : ℕ) (ds : List Draft) → Invariant net s → (s.vis.records i).phase ≡ Open → Invariant net (on s (amended s.vis i (drafting ds (s.vis.records i))))
@@ -65,7 +64,7 @@ closes_empty_keeps net s i v o = amend_open net s i (voting Granted 0 None (s.vi
   answered = refl;
   going = differ Granted Closing refl refl;
   unrefused = differ Granted Refused refl refl;
-  unnamed = λ k t n. none-some refl n;
+  unnamed = λ k t n. cc n;
 })
 
 -- a transaction that is not waiting has nothing of a read in the air
@@ -106,11 +105,8 @@ begins_keeps net s t v =
       votes = votes_put net rs i r s.vis.held s.vis.air (differ Dropped Closing refl o) (differ Dropped Refused refl o) (λ c. absurd (differ Open Closing refl refl c)) v.votes;
       reads = reads-put net s.placed rs i r s.vis.air s.readings (differ Dropped Waiting refl o) (λ q. absurd (both_ways _ (ap (λ (x : Record). x.answered) e) q)) v.reads;
       outcomes = v.outcomes;
-      refusals = refusals_put net s.placed rs i r s.vis.book s.vis.air same (λ k t n. absurd (none-some refl n)) (λ q. absurd (differ Open Refused refl refl q)) v.refusals;
+      refusals = refusals_put net s.placed rs i r s.vis.book s.vis.air same (λ k t n. absurd (cc n)) (λ q. absurd (differ Open Refused refl refl q)) v.refusals;
     }
-
-pub no_answer : {k : ℕ} {f : Bool} {b : Body} {k' : ℕ} {v : Option Version} → b ≡ query k f → b ≡ answer k' v → ⊥
-no_answer p q = let z : ◌≡◌ {A = ℕ} 0 1 = cc in omega arith
 
 pub asks_keeps : (net : Net) (s : State) (i k : ℕ) → Invariant net s → (s.vis.records i).phase ≡ Open → Invariant net (on s (asked net s.vis i k))
 asks_keeps net s i k v o =
@@ -121,7 +117,7 @@ asks_keeps net s i k v o =
       answered = refl;
       going = differ Waiting Closing refl refl;
       unrefused = differ Waiting Refused refl refl;
-      unnamed = λ k t n. both_ways false refl t;
+      unnamed = λ k t n. cc t;
     }) in
     let q = message i old.origin (net.home k) old.bound (query k (not old.answered)) in
     let rs = put s.vis.records i r in
@@ -135,34 +131,23 @@ asks_keeps net s i k v o =
       granteds = w.granteds;
       unbegun = w.unbegun;
       votes = votes_sent net rs s.vis.held s.vis.air (q ∷ []) (only (λ x. is_ballot x.body ≡ false) q refl)
-          (only (λ x. x.body ≡ refused → (rs x.tx).phase ≡ Refused) q (λ e. absurd (both_ways false refl (ap is_refused e)))) w.votes;
+          (only (λ x. x.body ≡ refused → (rs x.tx).phase ≡ Refused) q (λ e. absurd (cc e))) w.votes;
       reads = reads_more net s.placed rs s.vis.air s.readings q (record {
         waiting = ap (λ (x : Record). x.phase) at;
         asked = λ k' first e.
             let ek : k ≡ k' = cc in
             let ef : not old.answered ≡ first = cc in
             (sym (ap (λ (x : Record). x.bound) at), sym ef ∙ sym (ap (λ (x : Record). not x.answered) at), ap net.home ek);
-        fair = λ k' v e. absurd (no_answer refl e);
-        right = λ k' v e. absurd (no_answer refl e);
-        again = λ k' v e. absurd (no_answer refl e);
+        fair = λ k' v e. absurd (cc e);
+        right = λ k' v e. absurd (cc e);
+        again = λ k' v e. absurd (cc e);
       }) (no_reads net s i v (differ Open Waiting refl o)) w.reads;
       outcomes = outcomes_sent net s.placed s.vis.clocks s.vis.air (q ∷ []) (only (λ x. is_granted x.body ≡ false) q refl) w.outcomes;
       refusals = refusals_sent net s.placed rs s.vis.book s.vis.air (q ∷ [])
-          (λ m k. only (λ m. m.body ≡ vote (Some k) → Justified net (intents rs) s.placed s.vis.book m.tx k) q (λ e. absurd (both_ways false refl (ap is_ballot e))) m) w.refusals;
+          (λ m k. only (λ m. m.body ≡ vote (Some k) → Justified net (intents rs) s.placed s.vis.book m.tx k) q (λ e. absurd (cc e)) m) w.refusals;
     }
 
 -- ## The prepares of a close
-
-pub in_prepares : (net : Net) (i : ℕ) (r : Record) (n : ℕ) (x : Message) → In x (prepares net i r n) → (t : ℕ) × (x ≡ prepare_to net i r t)
-in_prepares net i r zero x h = absurd h
-in_prepares net i r (suc t) x h = go (in_prepares net i r t x) (homed net t r.drafts) (in_append x (prepares net i r t) _ h)
-  where
-    go : (In x (prepares net i r t) → (t : ℕ) × (x ≡ prepare_to net i r t)) → (ds : List Draft) → In x (prepares net i r t) ⊎ In x (unless_none ds (prepare_to net i r t)) → (t : ℕ) × (x ≡ prepare_to net i r t)
-    go ih [] (inl g) = ih g
-    go ih [] (inr g) = absurd g
-    go ih (d ∷ ds) (inl g) = ih g
-    go ih (d ∷ ds) (inr (inl e)) = (t, e)
-    go ih (d ∷ ds) (inr (inr e)) = absurd e
 
 -- a line is among the drafts, at its home
 pub homed-drafted : (net : Net) (t : ℕ) (ds : List Draft) (k : ℕ) → Drafted (homed net t ds) k → Drafted ds k × (net.home k ≡ t)
@@ -202,13 +187,6 @@ tally-full : (q : Message → Bool) (xs : List Message) → ((x : Message) → I
 tally-full q [] h = refl
 tally-full q (x ∷ xs) h = rw (h x (inl refl)) (omega (arith, tally-full q xs (λ y g. h y (inr g))))
 
--- a property of every prepare
-pub each-prepare : (net : Net) (i : ℕ) (r : Record) (n : ℕ) (Q : Message → Type 0) → ((t : ℕ) → Q (prepare_to net i r t)) → (x : Message) → In x (prepares net i r n) → Q x
-each-prepare net i r n Q f x h = let p = in_prepares net i r n x h in subst Q (sym p.1) (f p.0)
-
-pub no_vote : {ls : List Draft} {n : Option Objection} {b : Body} → b ≡ prepare ls → b ≡ vote n → ⊥
-no_vote p q = let z : ◌≡◌ {A = ℕ} 0 1 = cc in omega arith
-
 closes_votes : (net : Net) (s : State) (i : ℕ) → Invariant net s → (s.vis.records i).phase ≡ Open →
     let ms = prepares net i (s.vis.records i) net.towers in
     Votes net (put s.vis.records i (voting Closing (length ms) None (s.vis.records i))) s.vis.held (s.vis.air ++ ms)
@@ -227,9 +205,9 @@ closes_votes net s i v o =
           closing = refl;
           bound = refl;
           asker = λ _ _. refl;
-          asked = λ n e. absurd (no_vote refl e);
+          asked = λ n e. absurd (cc e);
           lines = λ ls e. cc;
-          holds = λ e. absurd (no_vote refl e);
+          holds = λ e. absurd (cc e);
         })) m h
       ];
       awaited = put_case (λ j x. x.phase ≡ Closing → x.awaited ≡ ballots j (s.vis.air ++ ms)) s.vis.records i r
@@ -253,7 +231,7 @@ closes_votes net s i v o =
           (λ j _ c d n. elim (g.pending j k c d n) [ inl h ↦ inl h | inr x ↦ inr (x.0, in_left x.0 s.vis.air ms x.1, x.2, x.3, x.4) ]) j;
       over = λ m h b. elim (in_append m s.vis.air ms h) [
         | inl h ↦ rw (put_other s.vis.records i r m.tx (λ q. differ Open Refused refl o (ap (λ (n : ℕ). (s.vis.records n).phase) q ∙ g.over m h b))) (g.over m h b)
-        | inr h ↦ absurd (each-prepare net i old net.towers (λ m. m.body ≡ refused → ⊥) (λ t e. both_ways false refl (ap is_refused e)) m h b)
+        | inr h ↦ absurd (each-prepare net i old net.towers (λ m. m.body ≡ refused → ⊥) (λ t e. cc e) m h b)
       ];
     }
 
@@ -277,6 +255,6 @@ closes_keeps net s i v o =
           (reads-put net s.placed s.vis.records i r s.vis.air s.readings (differ Open Waiting refl o) (λ q. (q, refl)) v.reads);
       outcomes = outcomes_sent net s.placed s.vis.clocks s.vis.air ms (each-prepare net i old net.towers (λ m. is_granted m.body ≡ false) (λ t. refl)) v.outcomes;
       refusals = refusals_sent net s.placed rs s.vis.book s.vis.air ms
-          (λ m k h e. absurd (each-prepare net i old net.towers (λ m. m.body ≡ vote (Some k) → ⊥) (λ t q. no_vote refl q) m h e))
-          (refusals_put net s.placed s.vis.records i r s.vis.book s.vis.air same (λ k _ n. absurd (none-some refl n)) (λ q. absurd (differ Closing Refused refl refl q)) v.refusals);
+          (λ m k h e. absurd (each-prepare net i old net.towers (λ m. m.body ≡ vote (Some k) → ⊥) (λ t q. cc q) m h e))
+          (refusals_put net s.placed s.vis.records i r s.vis.book s.vis.air same (λ k _ n. absurd (cc n)) (λ q. absurd (differ Closing Refused refl refl q)) v.refusals);
     }

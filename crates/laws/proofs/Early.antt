@@ -1,15 +1,17 @@
 -- What its own tower had placed before a transaction began is within its bound. Assumes nothing.
-use Rattle.std.proofs.Common.{◌≡◌, ℕ, suc, pred, ◌<◌, ◌≤◌, cond, eqb, ◌⊎◌, List, [], ◌∷◌, length, Some, None, sym, refl, ap, ◌∙◌, subst, inl, inr, arith}
+use Rattle.std.proofs.Common.{◌≡◌, ℕ, suc, pred, ◌<◌, ◌≤◌, cond, eqb, ◌⊎◌, List, [], ◌∷◌, length, Some, None, Ok, Result, sym, refl, ap, ◌∙◌, subst, inl, inr, arith}
+use Rattle.std.specs.Option.{option_or}
 use Rattle.std.proofs.lemmas.Bool.{eq-eqb, ne_eqb, eqb-true, cases_eq, cases_Bool}
 use Rattle.tables.specs.declared.Call.{Call}
+use Rattle.faults.specs.declared.Cause.{Cause}
 use Rattle.tables.specs.declared.Told.{Told}
 use Rattle.tables.specs.declared.Phase.TheVariants.{Waiting, Closing, Granted, Refused, Dropped}
-use Rattle.laws.specs.Lists.{put, In, either}
+use Rattle.laws.specs.Lists.{put, In}
 use Rattle.laws.specs.Net.{Record, Placement, Net, ◌⊑◌, is_ballot}
 use Rattle.laws.proofs.Log.{Seen}
-use Rattle.laws.proofs.Model.{Logged, State, after-step, next, noting, on, placing, start, then}
+use Rattle.laws.proofs.Model.{Logged, State, after-step, next, start, then}
 use Rattle.laws.specs.Rules.{Rule, Step, agrees, asks, begins, closes, closes_empty, counts, drafts, drops, fails, grants, receives, releases, reads_own, obeys, objects, refuses, replies, takes_in}
-use Rattle.laws.specs.State.{granted_record, placement, Visible}
+use Rattle.laws.specs.State.{granted_record, Visible}
 use Rattle.laws.specs.Words.{opened, in_phase, drafting, reading_at, voting, redrafted, placed_as, prepares, Event}
 use Rattle.laws.specs.History.{Note, note, is_begun, is_shown, is_placed, is_other, is_fault, placed_by, begun_by, placed_in, begun_in, NextTold, Counted, before_by, placed_before_in, origin_in}
 use Rattle.laws.proofs.Lists.{put_case, put_same, put_other, in_at}
@@ -59,11 +61,11 @@ early_put h n P rs i r b g y E l m q o = put_case (λ j x. Seen E (rs j).bound �
 same : (rs : ℕ → Record) (i : ℕ) → (rs i).bound ⊑ (rs i).bound
 same rs i j = omega arith
 
-abbrev after : Call → Told → List Event → List Event
+abbrev after : Call → Result Told Cause → List Event → List Event
 after c a h = record { call = c; told = a } ∷ h
 
-early_rule : (net : Net) {s : State} {v' : Visible} {c : Call} {a : Told} (h : List Event) → Invariant net s → More net s → Linked h s → EarlyIn h s → (x : Rule net s.vis v' c a) → EarlyIn (after c a h) (next net s x)
-early_rule net {s} {c = call} {a = told} h v g l x (begins t b _ e) = subst (λ (w : Visible). EarlyIn (after call told h) (on s w)) (sym e) (λ y E lt m. go y E lt m (cases_eq s.vis.begun y))
+early_rule : (net : Net) {s : State} {v' : Visible} {c : Call} {a : Told} (h : List Event) → Invariant net s → More net s → Linked h s → EarlyIn h s → (x : Rule net s.vis v' c a) → EarlyIn (after c (Ok a) h) (next net s x)
+early_rule net {s} h v g l x (begins t b _ e) = λ y E lt m. go y E lt m (cases_eq s.vis.begun y)
   where
     r : Record
     r = opened t (s.vis.clocks t)
@@ -76,19 +78,18 @@ early_rule net {s} {c = call} {a = told} h v g l x (begins t b _ e) = subst (λ 
         rw (put_same s.vis.records s.vis.begun (opened t (s.vis.clocks t)) y q) u'
     go y E lt m (inr n) i o =
         rw (put_other s.vis.records s.vis.begun (opened t (s.vis.clocks t)) y n) (x y E (omega (arith, lt, n)) m (rw (ne_eqb s.vis.begun y n) at i) (rw (ne_eqb s.vis.begun y n) at o))
-early_rule net {s} {c = call} {a = told} h v g l x (reads_own i k d o q e) = subst (λ (w : Visible). EarlyIn (after call told h) (on s w)) (sym e) x
-early_rule net {s} {c = call} {a = told} h v g l x (asks i k o _ n e) = subst (λ (w : Visible). EarlyIn (after call told h) (on s w)) (sym e) (early_put h s.vis.begun s.placed s.vis.records i (in_phase Waiting (s.vis.records i)) (same s.vis.records i) x)
-early_rule net {s} {c = call} {a = told} h v g l x (drafts i k w o _ _ e) = subst (λ (w : Visible). EarlyIn (after call told h) (on s w)) (sym e) (early_put h s.vis.begun s.placed s.vis.records i (drafting (redrafted k w (s.vis.records i).drafts) (s.vis.records i)) (same s.vis.records i) x)
-early_rule net {s} {c = call} {a = told} h v g l x (drops i o e) = subst (λ (w : Visible). EarlyIn (after call told h) (on s w)) (sym e) (early_put h s.vis.begun s.placed s.vis.records i (in_phase Dropped (s.vis.records i)) (same s.vis.records i) x)
-early_rule net {s} {c = call} {a = told} h v g l x (closes_empty i o n e) = subst (λ (w : Visible). EarlyIn (after call told h) (on s w)) (sym e) (early_put h s.vis.begun s.placed s.vis.records i (voting Granted 0 None (s.vis.records i)) (same s.vis.records i) x)
-early_rule net {s} {c = call} {a = told} h v g l x (closes i o n e) = subst (λ (w : Visible). EarlyIn (after call told h) (on s w)) (sym e) (early_put h s.vis.begun s.placed s.vis.records i (voting Closing (length (prepares net i (s.vis.records i) net.towers)) None (s.vis.records i)) (same s.vis.records i) x)
-early_rule net {s} {c = call} {a = told} h v g l x (replies p m k first r b e) = subst (λ (w : Visible). EarlyIn (after call told h) (on s w)) (sym e) x
-early_rule net {s} {c = call} {a = told} h v g l x (receives p m k shown a b e) = subst (λ (w : Visible). EarlyIn (after call told h) (noting s (record { tx = m.tx; key = k; shown = shown }) w)) (sym e) (early_put h s.vis.begun s.placed s.vis.records m.tx (reading_at m.bound (s.vis.records m.tx)) (g.growing m k shown (in_at s.vis.air p m a) b) x)
-early_rule net {s} {c = call} {a = told} h v g l x (agrees p m lines r b n e) = subst (λ (w : Visible). EarlyIn (after call told h) (on s w)) (sym e) x
-early_rule net {s} {c = call} {a = told} h v g l x (objects p m lines k r b y e) = subst (λ (w : Visible). EarlyIn (after call told h) (on s w)) (sym e) x
-early_rule net {s} {c = call} {a = told} h v g l x (counts p m named r b q e) = subst (λ (w : Visible). EarlyIn (after call told h) (on s w)) (sym e)
-    (early_put h s.vis.begun s.placed s.vis.records m.tx (voting Closing (pred (s.vis.records m.tx).awaited) (either (s.vis.records m.tx).named named) (s.vis.records m.tx)) (same s.vis.records m.tx) x)
-early_rule net {s} {c = call} {a = told} h v g l x (grants p m named r b one q e) = subst (λ (w : Visible). EarlyIn (after call told h) (placing s (placement s.vis m.tx) w)) (sym e) (
+early_rule net {s} h v g l x (reads_own i k d o q e) = x
+early_rule net {s} h v g l x (asks i k o _ n e) = early_put h s.vis.begun s.placed s.vis.records i (in_phase Waiting (s.vis.records i)) (same s.vis.records i) x
+early_rule net {s} h v g l x (drafts i k w o _ _ e) = early_put h s.vis.begun s.placed s.vis.records i (drafting (redrafted k w (s.vis.records i).drafts) (s.vis.records i)) (same s.vis.records i) x
+early_rule net {s} h v g l x (drops i o e) = early_put h s.vis.begun s.placed s.vis.records i (in_phase Dropped (s.vis.records i)) (same s.vis.records i) x
+early_rule net {s} h v g l x (closes_empty i o n e) = early_put h s.vis.begun s.placed s.vis.records i (voting Granted 0 None (s.vis.records i)) (same s.vis.records i) x
+early_rule net {s} h v g l x (closes i o n e) = early_put h s.vis.begun s.placed s.vis.records i (voting Closing (length (prepares net i (s.vis.records i) net.towers)) None (s.vis.records i)) (same s.vis.records i) x
+early_rule net {s} h v g l x (replies p m k first r b e) = x
+early_rule net {s} h v g l x (receives p m k shown a b e) = early_put h s.vis.begun s.placed s.vis.records m.tx (reading_at m.bound (s.vis.records m.tx)) (g.growing m k shown (in_at s.vis.air p m a) b) x
+early_rule net {s} h v g l x (agrees p m lines r b n e) = x
+early_rule net {s} h v g l x (objects p m lines k r b y e) = x
+early_rule net {s} h v g l x (counts p m named r b q e) = early_put h s.vis.begun s.placed s.vis.records m.tx (voting Closing (pred (s.vis.records m.tx).awaited) (option_or (s.vis.records m.tx).named named) (s.vis.records m.tx)) (same s.vis.records m.tx) x
+early_rule net {s} h v g l x (grants p m named r b one q e) =
     let o = (s.vis.records m.tx).origin in
     let w = granted_record s.vis m.tx in
     let y = early_put h s.vis.begun s.placed s.vis.records m.tx w (same s.vis.records m.tx) x in
@@ -97,14 +98,13 @@ early_rule net {s} {c = call} {a = told} h v g l x (grants p m named r b one q e
     let not_yet : (z : ℕ) (E : Placement) → E ≡ T → In E.tx (placed_before_in h z) → ⊥ = λ z E d i.
     let f = placed_at s.placed E.tx (subst (In E.tx) (sym l.placed) (before-placed h E.tx z i)) in
     placed-other s.placed s.vis.records f.0 m.tx v.granteds f.1 (differ Closing Granted refl c) (f.2 ∙ ap (λ (F : Placement). F.tx) d) in
-    λ z E lt k i. elim k [ inl d ↦ absurd (not_yet z E d i) | inr k ↦ y z E lt k i ])
-early_rule net {s} {c = call} {a = told} h v g l x (refuses p m named k r b one q e) = subst (λ (w : Visible). EarlyIn (after call told h) (on s w)) (sym e)
-    (early_put h s.vis.begun s.placed s.vis.records m.tx (voting Refused 0 (Some k) (s.vis.records m.tx)) (same s.vis.records m.tx) x)
-early_rule net {s} {c = call} {a = told} h v g l x (takes_in p m n lines r b q e) = subst (λ (w : Visible). EarlyIn (after call told h) (on s w)) (sym e) x
-early_rule net {s} {c = call} {a = told} h v g l x (releases p m a b e) = subst (λ (w : Visible). EarlyIn (after call told h) (on s w)) (sym e) x
+    λ z E lt k i. elim k [ inl d ↦ absurd (not_yet z E d i) | inr k ↦ y z E lt k i ]
+early_rule net {s} h v g l x (refuses p m named k r b one q e) = early_put h s.vis.begun s.placed s.vis.records m.tx (voting Refused 0 (Some k) (s.vis.records m.tx)) (same s.vis.records m.tx) x
+early_rule net {s} h v g l x (takes_in p m n lines r b q e) = x
+early_rule net {s} h v g l x (releases p m a b e) = x
 
-early_step : (net : Net) {s : State} {v' : Visible} {c : Call} {a : Told} (h : List Event) → Invariant net s → More net s → Linked h s → EarlyIn h s → (x : Step net s.vis v' c a) → EarlyIn (after c a h) (after-step net s x)
-early_step net {s} {c = call} {a = told} h v g l x (fails f _ e) = subst (λ (w : Visible). EarlyIn (after call told h) (on s w)) (sym e) x
+early_step : (net : Net) {s : State} {v' : Visible} {c : Call} {a : Result Told Cause} (h : List Event) → Invariant net s → More net s → Linked h s → EarlyIn h s → (x : Step net s.vis v' c a) → EarlyIn (after c a h) (after-step net s x)
+early_step net {s} h v g l x (fails f _ e) = x
 early_step net h v g l x (obeys _ y) = early_rule net h v g l x y
 
 pub run_early : (net : Net) {h : List Event} {s : State} → Logged net h s → (y : ℕ) (E : Placement) → y < s.vis.begun → In E s.placed → In E.tx (placed_before_in h y) → E.origin ≡ origin_in h y → Seen E (s.vis.records y).bound

@@ -1,6 +1,8 @@
 -- No more is placed than began, so that clocks stay small. Assumes nothing.
-use Rattle.std.proofs.Common.{◌≡◌, ℕ, zero, suc, ◌+◌, ◌<◌, ◌≤◌, Bool, true, false, cond, eqb, ◌≢◌, ◌⊎◌, List, [], ◌∷◌, length, sym, refl, ap, ◌∙◌, subst, inl, inr, arith}
+use Rattle.std.proofs.Common.{◌≡◌, ℕ, ◌+◌, ◌<◌, ◌≤◌, Bool, true, false, cond, eqb, ◌≢◌, ◌⊎◌, List, [], ◌∷◌, length, sym, refl, ap, ◌∙◌, subst, inl, inr, arith}
+use Rattle.std.specs.List.{list_any, AllByRecursion, IsDistinct}
 use Rattle.std.proofs.lemmas.Bool.{eq-eqb, ne_eqb, cases_eq}
+use Rattle.std.proofs.lemmas.Map.Steps.{length-le_from_distinct_below}
 use Rattle.tables.specs.declared.Phase.TheVariants.{Dropped}
 use Rattle.laws.specs.Lists.{In, tally}
 use Rattle.laws.specs.Net.{Net}
@@ -18,39 +20,29 @@ use Rattle.laws.proofs.Histories.{run_linked}
 use Rattle.laws.proofs.Lawful.{count_told, told_of, laws_stand}
 use Rattle.laws.proofs.Further.{always}
 
--- ## A list of different numbers below n is no longer than n
+-- ## Numbers below n, none of them twice, are at most n
 
-pub total : ℕ → List ℕ → ℕ
-total zero xs = 0
-total (suc n) xs = total n xs + tally (λ x. eqb x n) xs
+any_in : (q : ℕ) (xs : List ℕ) → list_any (eqb q) xs ≡ true → In q xs
+any_in q [] e = absurd (cc e)
+any_in q (x ∷ xs) e = elim (cases_eq q x) [ inl s ↦ inl s | inr n ↦ inr (any_in q xs (rw (ne_eqb q x n) at e)) ]
 
-total_out : (n x : ℕ) (xs : List ℕ) → n ≤ x → total n (x ∷ xs) ≡ total n xs
-unfolding total
-total_out zero x xs l = refl
-total_out (suc n) x xs l = rw (ne_eqb x n (λ e. omega (arith, e, l))) (omega (arith, total_out n x xs (omega arith)))
+others : (x : ℕ) (xs : List ℕ) → tally (λ y. eqb y x) xs ≡ 0 → AllByRecursion (λ y. eqb x y ≡ false) xs
+others x [] e = tt
+others x (y ∷ xs) e = elim (cases_eq y x) [
+  | inl s ↦ (let z : 1 + tally (λ y. eqb y x) xs ≡ 0 = rw (eq-eqb y x s) at e in absurd (omega (arith, z)))
+  | inr n ↦ (let z : 0 + tally (λ y. eqb y x) xs ≡ 0 = rw (ne_eqb y x n) at e in (ne_eqb x y (λ s. n (sym s)), others x xs (omega (arith, z))))
+]
 
-total_in : (n x : ℕ) (xs : List ℕ) → x < n → total n (x ∷ xs) ≡ suc (total n xs)
-unfolding total
-total_in zero x xs l = absurd (omega arith)
-total_in (suc n) x xs l = go (total_in n x xs) (cases_eq x n)
-  where
-    go : (x < n → total n (x ∷ xs) ≡ suc (total n xs)) → (x ≡ n) ⊎ (x ≡ n → ⊥) → total (suc n) (x ∷ xs) ≡ suc (total (suc n) xs)
-    go ih (inl e) = rw (eq-eqb x n e) (omega (arith, total_out n x xs (omega (arith, e))))
-    go ih (inr d) = rw (ne_eqb x n d) (omega (arith, ih (omega (arith, d, l))))
+different : (xs : List ℕ) → ((v : ℕ) → tally (λ x. eqb x v) xs ≤ 1) → IsDistinct eqb xs
+unfolding IsDistinct
+different [] f = tt
+different (x ∷ xs) f =
+    let once = f x in
+    let l : 1 + tally (λ y. eqb y x) xs ≤ 1 = rw (eq-eqb x x refl) at once in
+    (others x xs (omega (arith, l)), different xs (λ v. omega (arith, f v)))
 
-total_nil : (n : ℕ) → total n [] ≡ 0
-unfolding total
-total_nil zero = refl
-total_nil (suc n) = omega (arith, total_nil n)
-
-pub total_length : (n : ℕ) (xs : List ℕ) → ((x : ℕ) → In x xs → x < n) → total n xs ≡ length xs
-total_length n [] f = total_nil n
-total_length n (x ∷ xs) f = omega (arith, total_in n x xs (f x (inl refl)), total_length n xs (λ y q. f y (inr q)))
-
-pub total_few : (xs : List ℕ) → ((v : ℕ) → tally (λ x. eqb x v) xs ≤ 1) → (n : ℕ) → total n xs ≤ n
-unfolding total
-total_few xs f zero = omega arith
-total_few xs f (suc n) = omega (arith, total_few xs f n, f n)
+pub few : (n : ℕ) (xs : List ℕ) → ((x : ℕ) → In x xs → x < n) → ((v : ℕ) → tally (λ x. eqb x v) xs ≤ 1) → length xs ≤ n
+few n xs f d = length-le_from_distinct_below xs n (different xs d) (λ q e. f q (any_in q xs e))
 
 tally_different : (xs : List ℕ) → ((x : ℕ) → Earlier x x xs → ⊥) → (v : ℕ) → tally (λ x. eqb x v) xs ≤ 1
 tally_different [] d v = omega arith
@@ -60,15 +52,12 @@ tally_different (x ∷ xs) d v = go (tally_different xs (λ y q. d y (inr q)) v)
     go ih (inl e) = rw (eq-eqb x v e) (omega (arith, tally-none (λ x. eqb x v) xs (λ y q. ne_eqb y v (λ z. d x (inl (refl, subst (λ (w : ℕ). In w xs) (z ∙ sym e) q))))))
     go ih (inr n) = rw (ne_eqb x v n) (omega (arith, ih))
 
-few : (n : ℕ) (xs : List ℕ) → ((x : ℕ) → In x xs → x < n) → ((x : ℕ) → Earlier x x xs → ⊥) → length xs ≤ n
-few n xs f d = omega (arith, total_length n xs f, total_few xs (tally_different xs d) n)
-
 pub tally-length : {A : Type 0} (q : A → Bool) (xs : List A) → tally q xs ≤ length xs
 tally-length q [] = omega arith
 tally-length q (x ∷ xs) = elim (q x) as (λ b. cond b 1 0 + tally q xs ≤ length (x ∷ xs)) [ true ↦ omega (arith, tally-length q xs) | false ↦ omega (arith, tally-length q xs) ]
 
 pub placed-few : (net : Net) (h : List Event) (v : Visible) → Laws net h v → length (placed_in h) ≤ begun_in h
-placed-few net h v l = few (begun_in h) (placed_in h) l.began l.once
+placed-few net h v l = few (begun_in h) (placed_in h) l.began (tally_different (placed_in h) l.once)
 
 -- ## Clocks
 

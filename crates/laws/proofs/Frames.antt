@@ -12,7 +12,7 @@ use Rattle.laws.proofs.Conflicts.{says_map}
 use Rattle.laws.proofs.Log.{versions}
 use Rattle.laws.proofs.Model.{Answered}
 use Rattle.laws.specs.Words.{placed_as, granted_to, freed}
-use Rattle.laws.proofs.Lists.{put_other, put_case, put_all, in_left, in_append, in_without, in_rest, in_those, those_in, tally-append, tally_at, tally-none}
+use Rattle.laws.proofs.Lists.{put_other, put_case, put_all, in_left, in_append, in_without, in_rest, in_filter, filter_in, tally-append, tally_at, tally-none}
 use Rattle.laws.proofs.Invariant.{Intent, intent, Intents, intents, is_read, is_ballot, is_granted, polled, reads, ballots, Fair, Bounds, Holds, Holders, Granteds, Unbegun, Votes, Reads, Outcomes, Justified, Refusals}
 
 -- ## Phases
@@ -229,19 +229,19 @@ pub holds_left : (hs gs : List Held) (k i : ℕ) → Holds hs k i → Holds (hs 
 holds_left hs gs k i h = (h.0, in_left h.0 hs gs h.1, h.2, h.3)
 
 pub holds_freed : (net : Net) (i t : ℕ) (hs : List Held) (k j : ℕ) → Holds (freed net i t hs) k j → Holds hs k j
-holds_freed net i t hs k j h = (h.0, (in_those (λ h. not (eqb h.tx i && eqb (net.home h.key) t)) hs h.0 h.1).0, h.2, h.3)
+holds_freed net i t hs k j h = (h.0, (in_filter (λ h. not (eqb h.tx i && eqb (net.home h.key) t)) hs h.0 h.1).0, h.2, h.3)
 
 -- what is let go is not held
 pub not_freed : (net : Net) (i t : ℕ) (hs : List Held) (k : ℕ) → net.home k ≡ t → Holds (freed net i t hs) k i → ⊥
 not_freed net i t hs k e h =
-    let q = (in_those (λ h. not (eqb h.tx i && eqb (net.home h.key) t)) hs h.0 h.1).1 in
+    let q = (in_filter (λ h. not (eqb h.tx i && eqb (net.home h.key) t)) hs h.0 h.1).1 in
     let a : eqb h.0.tx i ≡ true = eq-eqb _ _ h.3 in
     let b : eqb (net.home h.0.key) t ≡ true = eq-eqb _ _ (ap net.home h.2 ∙ e) in
     both_ways false refl (rw (a, b) at q)
 
 -- what others hold, or the transaction elsewhere, is kept
 pub freed_keeps : (net : Net) (i t : ℕ) (hs : List Held) (k j : ℕ) → (j ≡ i → net.home k ≡ t → ⊥) → Holds hs k j → Holds (freed net i t hs) k j
-freed_keeps net i t hs k j n h = (h.0, those_in (λ h. not (eqb h.tx i && eqb (net.home h.key) t)) hs h.0 h.1 (go (cases_eq h.0.tx i) (cases_eq (net.home h.0.key) t)), h.2, h.3)
+freed_keeps net i t hs k j n h = (h.0, filter_in (λ h. not (eqb h.tx i && eqb (net.home h.key) t)) hs h.0 h.1 (go (cases_eq h.0.tx i) (cases_eq (net.home h.0.key) t)), h.2, h.3)
   where
     go : (h.0.tx ≡ i) ⊎ (h.0.tx ≡ i → ⊥) → (net.home h.0.key ≡ t) ⊎ (net.home h.0.key ≡ t → ⊥) → not (eqb h.0.tx i && eqb (net.home h.0.key) t) ≡ true
     go (inl a) (inl b) = absurd (n (sym h.3 ∙ a) (sym (ap net.home h.2) ∙ b))

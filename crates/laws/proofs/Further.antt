@@ -1,6 +1,6 @@
 -- The further laws. Assumes nothing.
 use Rattle.std.proofs.Common.{◌≡◌, ℕ, ◌+◌, ◌<◌, ◌≤◌, Bool, true, false, cond, ◌&&◌, eqb, ◌≢◌, ◌⊎◌, List, [], ◌∷◌, length, sym, refl, ap, ◌∙◌, subst, inl, inr, arith}
-use Rattle.std.proofs.lemmas.Bool.{eqb-true, cases_eq, cases_Bool, both_ways, leb-true, and_parts}
+use Rattle.std.proofs.lemmas.Bool.{eqb-true, cases_eq, cases_Bool, leb-true, and_parts}
 use Rattle.clocks.specs.declared.Version.{Version}
 use Rattle.messages.specs.declared.Draft.{Draft}
 use Rattle.tables.specs.declared.Phase.{Phase}
@@ -18,14 +18,14 @@ use Rattle.laws.proofs.Placed.{number_le, written_none}
 use Rattle.laws.proofs.Invariant.{Holds, Invariant, is_read}
 use Rattle.laws.proofs.Frames.{differ}
 use Rattle.laws.proofs.Calls.{homed-drafted}
-use Rattle.laws.proofs.Conflicts.{either-none}
+use Rattle.laws.proofs.Conflicts.{option_or_parts}
 use Rattle.laws.proofs.Granting.{grants_holds}
 use Rattle.laws.proofs.Shown.{in_written}
 use Rattle.laws.proofs.Stand.{run_holds, facts_stand}
 use Rattle.laws.proofs.Ranges.{run_ranges, message-begun}
 use Rattle.laws.proofs.Histories.{txs, Linked, run_linked}
 use Rattle.laws.proofs.Lawful.{count_told, placed_at, in_txs, told_of, bound_of, one, versions_are, within_of, of_within, origin_is, outside_of, lawful}
-use Rattle.laws.proofs.More.{More, run_more, below, those_fewer}
+use Rattle.laws.proofs.More.{More, run_more, filter_fewer}
 use Rattle.laws.proofs.Early.{before-placed, before-begun, run_early}
 
 -- what holds of the model's runs holds of the visible ones
@@ -143,7 +143,7 @@ module _ (net : Net) (s : State) (v : Invariant net s) (g : More net s) where
       (y.0, y.1, subst (λ (z : Message). In z s.vis.air) y.2 q, el)
 
   held-room : (k i : ℕ) → Holds s.vis.held k i → length (s.vis.book k) < net.depth
-  held-room k i q = below (length (s.vis.book k)) net.depth (g.roomy k) (v.holders.room k i q)
+  held-room k i q = omega (arith, g.roomy k, v.holders.room k i q)
 
   outcome-room : (m : Message) (n : ℕ) (ls : List Draft) (k : ℕ) → In m s.vis.air → m.body ≡ granted n ls → Drafted ls k → length (s.vis.book k) < net.depth
   outcome-room m n ls k q b d =
@@ -157,12 +157,12 @@ module _ (net : Net) (s : State) (v : Invariant net s) (g : More net s) where
   room-found h = record {
     never_over = g.roomy;
     at_outcome = outcome-room;
-    at_grant = λ p m named k a b o q d. held-room k m.tx (grants_holds net s p m named v a b o (either-none (s.vis.records m.tx).named named q) k d);
+    at_grant = λ p m named k a b o q d. held-room k m.tx (grants_holds net s p m named v a b o (option_or_parts (s.vis.records m.tx).named named q) k d);
     one_line = λ m n ls k q b.
         let y = meant_for m n ls q b in
         let E = y.0 in
         let t : tally (λ d. eqb d.key k) E.drafts ≤ 1 = subst (λ (ds : List Draft). tally (λ d. eqb d.key k) ds ≤ 1) (sym (ap (λ (x : Placement). x.drafts) (v.granteds E y.1).1)) (g.tidy E.tx k) in
-        subst (λ (ds : List Draft). tally (λ d. eqb d.key k) ds ≤ 1) (sym y.3) (omega (arith, t, those_fewer (λ d. eqb d.key k) (λ d. eqb (net.home d.key) m.to) E.drafts));
+        subst (λ (ds : List Draft). tally (λ d. eqb d.key k) ds ≤ 1) (sym y.3) (omega (arith, t, filter_fewer (λ d. eqb d.key k) (λ d. eqb (net.home d.key) m.to) E.drafts));
     one_draft = g.tidy;
   }
 
@@ -217,12 +217,12 @@ versions_none [] k f = refl
 versions_none (T ∷ P) k f = rw (versions_none P k (λ E q. f E (inr q)), written_none T.tx T.origin T.number T.drafts k (f T (inl refl)))
 
 shut_cases : (p : Phase) → has_closed p ≡ true → (p ≡ Closing) ⊎ (p ≡ Granted) ⊎ (p ≡ Refused)
-shut_cases Open e = absurd (both_ways false refl e)
-shut_cases Waiting e = absurd (both_ways false refl e)
+shut_cases Open e = absurd (cc e)
+shut_cases Waiting e = absurd (cc e)
 shut_cases Closing e = inl refl
 shut_cases Granted e = inr (inl refl)
 shut_cases Refused e = inr (inr refl)
-shut_cases Dropped e = absurd (both_ways false refl e)
+shut_cases Dropped e = absurd (cc e)
 
 -- a transaction that alone drafted its one key is granted, once it is closed and the air is empty
 module _ (net : Net) (h : List Event) (s : State) (v : Invariant net s) (l : Linked h s) (r : Logged net h s) (deep : net.depth ≡ 1) (empty : s.vis.air ≡ []) where

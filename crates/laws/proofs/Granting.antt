@@ -1,23 +1,25 @@
 -- A granted outcome that lands, and the vote that grants, keep the invariant. Assumes nothing.
-use Rattle.std.proofs.Common.{◌≡◌, ℕ, zero, suc, ◌<◌, ◌≤◌, Bool, true, false, cond, ◌&&◌, eqb, ◌≢◌, ◌⊎◌, List, [], ◌∷◌, ◌++◌, Some, None, Option, sym, refl, ap, ◌∙◌, subst, inl, inr, append-nil, arith}
-use Rattle.std.proofs.lemmas.Bool.{eq-eqb, ne_eqb, cases_eq, both_ways, lt-leb, and_from}
+use Rattle.std.proofs.Common.{◌≡◌, ℕ, zero, suc, ◌<◌, ◌≤◌, true, false, cond, ◌&&◌, eqb, ◌≢◌, ◌⊎◌, List, [], ◌∷◌, ◌++◌, Some, None, Option, sym, refl, ap, ◌∙◌, subst, inl, inr, append-nil, arith}
+use Rattle.std.specs.Option.{option_or}
+use Rattle.std.proofs.lemmas.Bool.{eq-eqb, ne_eqb, cases_eq, lt-leb, and_from}
 use Rattle.clocks.specs.declared.Version.{Version}
 use Rattle.messages.specs.declared.Draft.{Draft}
 use Rattle.tables.specs.declared.Held.{Held}
 use Rattle.tables.specs.declared.Phase.TheVariants.{Waiting, Closing, Granted, Refused, Dropped}
 use Rattle.messages.specs.declared.Objection.{Objection}
-use Rattle.laws.proofs.Conflicts.{none-some, either-none, says_map}
+use Rattle.laws.proofs.Conflicts.{option_or_parts, says_map}
 use Rattle.laws.specs.State.{granted_record, placement}
-use Rattle.laws.specs.Lists.{put, In, At, without, either}
+use Rattle.laws.specs.Lists.{put, In, At, without}
 use Rattle.laws.specs.Net.{Clock, Record, vote, granted, refused, Message, Placement, Net, ◌⊑◌, Drafted, has_closed}
 use Rattle.laws.proofs.Log.{taken, count, Seen, seen}
 use Rattle.laws.proofs.Model.{Answered, State, on, placing}
 use Rattle.laws.specs.Rules.{Ripe, granting, took}
 use Rattle.laws.specs.Words.{placed_as, homed, freed, granted_to, grants_to}
 use Rattle.laws.proofs.Lists.{put_same, put_other, put_case, in_left, in_right, in_append, in_at, in_without, in_rest, none_left}
+use Rattle.laws.proofs.Sent.{each_grant}
 use Rattle.laws.proofs.Placed.{Numbered, Ordered, Closed, count_self, count_grows, number_le, number_pos, new_unseen, shown-new, closed-new}
-use Rattle.laws.proofs.Invariant.{Intent, Intents, intents, is_read, is_ballot, is_granted, is_refused, polled, ballots, Fair, Bounds, Books, Holds, Holders, Granteds, Reads, Outcomes, Justified, Refusals, Invariant}
-use Rattle.laws.proofs.Frames.{same-put, holders_same, granteds_put, bounds-put, unbegun_put, reads-put, refusals_put, votes_landed, votes_sent, votes_held, reads_landed, reads-sent, outcomes_landed, refusals_landed, refusals_sent, freed_keeps, differ, only, intent_shut, placed-once, placed-other}
+use Rattle.laws.proofs.Invariant.{Intent, Intents, intents, is_read, is_ballot, is_granted, polled, ballots, Fair, Bounds, Books, Holds, Holders, Granteds, Reads, Outcomes, Justified, Refusals, Invariant}
+use Rattle.laws.proofs.Frames.{same-put, holders_same, granteds_put, bounds-put, unbegun_put, reads-put, refusals_put, votes_landed, votes_sent, votes_held, reads_landed, reads-sent, outcomes_landed, refusals_landed, refusals_sent, freed_keeps, differ, intent_shut, placed-once, placed-other}
 use Rattle.laws.proofs.Voting.{votes_over, polled_vote}
 use Rattle.laws.proofs.TakeIn.{passed, Next, passed_grows, passed_seen, passed_behind, passed_closed, added, added_books, added_full, added_holders, refusals_full}
 
@@ -179,18 +181,6 @@ module _ (P : List Placement) (T : Placement) (n : T.number ≡ suc (count P T.o
   count_other : (j : ℕ) → T.origin ≢ j → count (T ∷ P) j ≡ count P j
   count_other j d = rw (ne_eqb T.origin j d) (omega arith)
 
--- a property of each granted outcome
-pub each_grant : (net : Net) (T : Placement) (n : ℕ) (Q : Message → Type 0) → ((t : ℕ) → Q (granted_to net T t)) → (x : Message) → In x (grants_to net T n) → Q x
-each_grant net T zero Q f x h = absurd h
-each_grant net T (suc t) Q f x h = elim (in_append x (grants_to net T t) _ h) [
-  | inl g ↦ each_grant net T t Q f x g
-  | inr g ↦ go (eqb t T.origin) g
-]
-  where
-    go : (b : Bool) → In x (cond b [] (granted_to net T t ∷ [])) → Q x
-    go true g = absurd g
-    go false g = only Q (granted_to net T t) (f t) x g
-
 pub grants_has : (net : Net) (T : Placement) (n t : ℕ) → t < n → t ≢ T.origin → In (granted_to net T t) (grants_to net T n)
 grants_has net T zero t l d = absurd (omega arith)
 grants_has net T (suc n) t l d = go (grants_has net T n t) (cases_eq n t)
@@ -223,7 +213,7 @@ module _ (P : List Placement) (T : Placement) (cs : ℕ → Clock) (n : T.number
     ];
   }
 
-pub grants_keeps : (net : Net) (s : State) (p : ℕ) (m : Message) (named : Option Objection) → Invariant net s → Ripe net s.vis p m → m.body ≡ vote named → (s.vis.records m.tx).awaited ≡ 1 → either (s.vis.records m.tx).named named ≡ None → Invariant net (placing s (placement s.vis m.tx) (granting net s.vis p m))
+pub grants_keeps : (net : Net) (s : State) (p : ℕ) (m : Message) (named : Option Objection) → Invariant net s → Ripe net s.vis p m → m.body ≡ vote named → (s.vis.records m.tx).awaited ≡ 1 → option_or (s.vis.records m.tx).named named ≡ None → Invariant net (placing s (placement s.vis m.tx) (granting net s.vis p m))
 grants_keeps net s p m named v ripe e one q =
     let a = ripe.there in
     let h = in_at s.vis.air p m a in
@@ -245,7 +235,7 @@ grants_keeps net s p m named v ripe e one q =
     let is = intent_shut old (ap has_closed c) in
     let same = same-put s.vis.records i r (inr (sym is)) in
     let n : T.number ≡ suc (count P T.origin) = ap suc (v.clocks.own o) in
-    let all : (k : ℕ) → Drafted T.drafts k → Holds s.vis.held k T.tx = grants_holds net s p m named v a e one (either-none old.named named q) in
+    let all : (k : ℕ) → Drafted T.drafts k → Holds s.vis.held k T.tx = grants_holds net s p m named v a e one (option_or_parts old.named named q) in
     let others : (E : Placement) → In E P → E.tx ≢ i = λ E l. placed-other P s.vis.records E i v.granteds l (differ Closing Granted refl c) in
     let numbered : Numbered (T ∷ P) = (n, v.order.numbered) in
     let ordered : Ordered (T ∷ P) = ((λ E k l d w. let x = v.holders.ahead k i E (all k w) l d (others E l) in rw is at x), v.order.ordered) in
@@ -272,7 +262,7 @@ grants_keeps net s p m named v ripe e one q =
       holders = added_holders net (intents rs) (T ∷ P) cs s.vis.book s.vis.held o T numbered once (inl refl) refl holders;
       granteds = granteds;
       unbegun = unbegun_put s.vis.begun s.vis.records i r (differ Closing Dropped refl c) v.unbegun;
-      votes = votes_sent net rs held' rest ms (each (λ x. is_ballot x.body ≡ false) (λ t. refl)) (each (λ x. x.body ≡ refused → (rs x.tx).phase ≡ Refused) (λ t x. absurd (both_ways false refl (ap is_refused x))))
+      votes = votes_sent net rs held' rest ms (each (λ x. is_ballot x.body ≡ false) (λ t. refl)) (each (λ x. x.body ≡ refused → (rs x.tx).phase ≡ Refused) (λ t x. absurd (cc x)))
           (votes_held net rs s.vis.held held' rest
           (λ k j c l. freed_keeps net i o s.vis.held k j (λ x _. differ Closing Granted refl c (subst (λ (n : ℕ). (rs n).phase ≡ Granted) (sym x) (ap (λ (x : Record). x.phase) now))) l)
           (votes_over net s.vis.records r s.vis.held s.vis.air p m named a e one (differ Granted Closing refl refl) v.votes));
@@ -281,10 +271,10 @@ grants_keeps net s p m named v ripe e one q =
           (reads-put net P s.vis.records i r rest s.readings (differ Closing Waiting refl c) (λ q. (q, refl)) (reads_landed net P s.vis.records s.vis.air s.readings p m a v.reads)));
       outcomes = outcomes_new P T cs n refl net rest (outcomes_landed net P cs s.vis.air p m a (ap is_granted e) v.outcomes);
       refusals = refusals_sent net (T ∷ P) rs (added net s.vis.book o T) rest ms
-          (λ x j. each (λ x. x.body ≡ vote (Some j) → Justified net (intents rs) (T ∷ P) (added net s.vis.book o T) x.tx j) (λ t b. absurd (both_ways false refl (ap is_ballot b))) x)
+          (λ x j. each (λ x. x.body ≡ vote (Some j) → Justified net (intents rs) (T ∷ P) (added net s.vis.book o T) x.tx j) (λ t b. absurd (cc b)) x)
           (refusals_full net (T ∷ P) rs s.vis.book (added net s.vis.book o T) rest
           (added_full net (intents rs) (T ∷ P) cs s.vis.book s.vis.held o T numbered once (inl refl) refl holders)
           (refusals_new P T n net rs s.vis.book rest v.order.numbered bounds
-          (refusals_put net P s.vis.records i r s.vis.book rest same (λ k _ x. absurd (none-some refl x)) (λ x. absurd (differ Granted Refused refl refl x))
+          (refusals_put net P s.vis.records i r s.vis.book rest same (λ k _ x. absurd (cc x)) (λ x. absurd (differ Granted Refused refl refl x))
           (refusals_landed net P s.vis.records s.vis.book s.vis.air p v.refusals))));
     }

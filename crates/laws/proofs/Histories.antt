@@ -1,16 +1,19 @@
 -- What a history tells of a transaction is what its record says. Assumes nothing.
-use Rattle.std.proofs.Common.{◌≡◌, ℕ, suc, cond, eqb, List, [], ◌∷◌, ◌++◌, length, Some, None, sym, refl, ap, ◌∙◌, subst, arith}
+use Rattle.std.proofs.Common.{◌≡◌, ℕ, suc, cond, eqb, List, [], ◌∷◌, ◌++◌, map, length, Some, None, Ok, Result, sym, refl, ap, ◌∙◌, arith}
+use Rattle.std.specs.Option.{option_or}
+use Rattle.std.proofs.lemmas.List.{length-map}
 use Rattle.std.proofs.lemmas.Bool.{eq-eqb, ne_eqb}
 use Rattle.tables.specs.declared.Call.{Call}
+use Rattle.faults.specs.declared.Cause.{Cause}
 use Rattle.tables.specs.declared.Told.{Told}
 use Rattle.tables.specs.declared.Phase.TheVariants.{Waiting, Closing, Granted, Refused, Dropped}
 use Rattle.clocks.specs.declared.Content.{Content}
 use Rattle.tables.specs.declared.Reading.{Reading}
-use Rattle.laws.specs.Lists.{put, either}
+use Rattle.laws.specs.Lists.{put}
 use Rattle.laws.specs.Net.{Record, Placement, Net, content_of, writer_of}
-use Rattle.laws.proofs.Model.{Answered, Logged, State, after-step, next, noting, on, placing, start, then}
+use Rattle.laws.proofs.Model.{Answered, Logged, State, after-step, next, start, then}
 use Rattle.laws.specs.Rules.{Rule, Step, agrees, asks, begins, closes, closes_empty, counts, drafts, drops, fails, grants, receives, releases, reads_own, obeys, objects, refuses, replies, takes_in}
-use Rattle.laws.specs.State.{granted_record, placement, Visible}
+use Rattle.laws.specs.State.{granted_record, Visible}
 use Rattle.laws.specs.Words.{opened, in_phase, drafting, reading_at, voting, redrafted, prepares, Event}
 use Rattle.laws.specs.History.{placed_in, Counted, origin_in, begun_in, drafts_in, Received, reads_in}
 use Rattle.laws.proofs.Lists.{put_keeps, put_case}
@@ -18,8 +21,7 @@ use Rattle.laws.proofs.Invariant.{Invariant}
 use Rattle.laws.proofs.Stand.{run_holds}
 
 abbrev pub txs : List Placement → List ℕ
-txs [] = []
-txs (T ∷ P) = T.tx ∷ txs P
+txs P = map (λ (T : Placement). T.tx) P
 
 abbrev pub received_of : List Answered → List Received
 received_of [] = []
@@ -29,10 +31,6 @@ received_of (d ∷ ds) = received_of ds ++ record { tx = d.tx; key = d.key; cont
 abbrev pub noted : List Answered → List Reading
 noted [] = []
 noted (d ∷ ds) = noted ds ++ record { tx = d.tx; key = d.key; writer = writer_of d.shown } ∷ []
-
-pub length_txs : (P : List Placement) → length (txs P) ≡ length P
-length_txs [] = refl
-length_txs (T ∷ P) = ap suc (length_txs P)
 
 abbrev Origins : List Event → (ℕ → Record) → Type 0
 Origins h rs = (i : ℕ) → (rs i).origin ≡ origin_in h i
@@ -77,11 +75,11 @@ module _ (h : List Event) where
       (rw (eq-eqb i i refl) e)
       (λ j n. rw (ne_eqb i j n) (g j))
 
-abbrev after : Call → Told → List Event → List Event
+abbrev after : Call → Result Told Cause → List Event → List Event
 after c a h = record { call = c; told = a } ∷ h
 
-linked_rule : (net : Net) {s : State} {v' : Visible} {c : Call} {a : Told} (h : List Event) → Invariant net s → Linked h s → (x : Rule net s.vis v' c a) → Linked (after c a h) (next net s x)
-linked_rule net {s} {c = call} {a = told} h v l (begins t b _ e) = subst (λ (w : Visible). Linked (after call told h) (on s w)) (sym e) (record {
+linked_rule : (net : Net) {s : State} {v' : Visible} {c : Call} {a : Told} (h : List Event) → Invariant net s → Linked h s → (x : Rule net s.vis v' c a) → Linked (after c (Ok a) h) (next net s x)
+linked_rule net {s} h v l (begins t b _ e) = record {
   begun = ap suc l.begun;
   origins = starts h s.vis.records s.vis.begun t (opened t (s.vis.clocks t)) refl l.origins;
   drafts = d_put h s s.vis.begun (opened t (s.vis.clocks t)) l (sym (ap (λ (x : Record). x.drafts) (v.unbegun s.vis.begun (omega arith))));
@@ -90,10 +88,10 @@ linked_rule net {s} {c = call} {a = told} h v l (begins t b _ e) = subst (λ (w 
   last = l.last;
   entries = l.entries;
   counted = (l.begun, l.counted);
-})
-linked_rule net {s} {c = call} {a = told} h v l (reads_own i k d o g e) = subst (λ (w : Visible). Linked (after call told h) (on s w)) (sym e) (record { begun = l.begun; origins = l.origins; drafts = l.drafts; placed = l.placed; reads = l.reads; last = l.last; entries = l.entries; counted = (tt, l.counted) })
-linked_rule net {s} {c = call} {a = told} h v l (asks i k o _ n e) = subst (λ (w : Visible). Linked (after call told h) (on s w)) (sym e) (record { begun = l.begun; origins = o_put h s i (in_phase Waiting (s.vis.records i)) l refl; drafts = d_put h s i (in_phase Waiting (s.vis.records i)) l refl; placed = l.placed; reads = l.reads; last = l.last; entries = l.entries; counted = (tt, l.counted) })
-linked_rule net {s} {c = call} {a = told} h v l (drafts i k w o _ _ e) = subst (λ (w : Visible). Linked (after call told h) (on s w)) (sym e) (record {
+}
+linked_rule net {s} h v l (reads_own i k d o g e) = record { begun = l.begun; origins = l.origins; drafts = l.drafts; placed = l.placed; reads = l.reads; last = l.last; entries = l.entries; counted = (tt, l.counted) }
+linked_rule net {s} h v l (asks i k o _ n e) = record { begun = l.begun; origins = o_put h s i (in_phase Waiting (s.vis.records i)) l refl; drafts = d_put h s i (in_phase Waiting (s.vis.records i)) l refl; placed = l.placed; reads = l.reads; last = l.last; entries = l.entries; counted = (tt, l.counted) }
+linked_rule net {s} h v l (drafts i k w o _ _ e) = record {
   begun = l.begun;
   origins = o_put h s i (drafting (redrafted k w (s.vis.records i).drafts) (s.vis.records i)) l refl;
   drafts = redrafts h s.vis.records i k w (drafting (redrafted k w (s.vis.records i).drafts) (s.vis.records i)) refl l.drafts;
@@ -102,14 +100,14 @@ linked_rule net {s} {c = call} {a = told} h v l (drafts i k w o _ _ e) = subst (
   last = l.last;
   entries = l.entries;
   counted = (tt, l.counted);
-})
-linked_rule net {s} {c = call} {a = told} h v l (drops i o e) = subst (λ (w : Visible). Linked (after call told h) (on s w)) (sym e) (record { begun = l.begun; origins = o_put h s i (in_phase Dropped (s.vis.records i)) l refl; drafts = d_put h s i (in_phase Dropped (s.vis.records i)) l refl; placed = l.placed; reads = l.reads; last = l.last; entries = l.entries; counted = (tt, l.counted) })
-linked_rule net {s} {c = call} {a = told} h v l (closes_empty i o n e) = subst (λ (w : Visible). Linked (after call told h) (on s w)) (sym e) (record { begun = l.begun; origins = o_put h s i (voting Granted 0 None (s.vis.records i)) l refl; drafts = d_put h s i (voting Granted 0 None (s.vis.records i)) l refl; placed = l.placed; reads = l.reads; last = l.last; entries = l.entries; counted = (tt, l.counted) })
-linked_rule net {s} {c = call} {a = told} h v l (closes i o n e) = subst (λ (w : Visible). Linked (after call told h) (on s w)) (sym e) (
+}
+linked_rule net {s} h v l (drops i o e) = record { begun = l.begun; origins = o_put h s i (in_phase Dropped (s.vis.records i)) l refl; drafts = d_put h s i (in_phase Dropped (s.vis.records i)) l refl; placed = l.placed; reads = l.reads; last = l.last; entries = l.entries; counted = (tt, l.counted) }
+linked_rule net {s} h v l (closes_empty i o n e) = record { begun = l.begun; origins = o_put h s i (voting Granted 0 None (s.vis.records i)) l refl; drafts = d_put h s i (voting Granted 0 None (s.vis.records i)) l refl; placed = l.placed; reads = l.reads; last = l.last; entries = l.entries; counted = (tt, l.counted) }
+linked_rule net {s} h v l (closes i o n e) =
     let r = voting Closing (length (prepares net i (s.vis.records i) net.towers)) None (s.vis.records i) in
-    record { begun = l.begun; origins = o_put h s i r l refl; drafts = d_put h s i r l refl; placed = l.placed; reads = l.reads; last = l.last; entries = l.entries; counted = (tt, l.counted) })
-linked_rule net {s} {c = call} {a = told} h v l (replies p m k first r b e) = subst (λ (w : Visible). Linked (after call told h) (on s w)) (sym e) (record { begun = l.begun; origins = l.origins; drafts = l.drafts; placed = l.placed; reads = l.reads; last = l.last; entries = l.entries; counted = (tt, l.counted) })
-linked_rule net {s} {c = call} {a = told} h v l (receives p m k shown a b e) = subst (λ (w : Visible). Linked (after call told h) (noting s (record { tx = m.tx; key = k; shown = shown }) w)) (sym e) (
+    record { begun = l.begun; origins = o_put h s i r l refl; drafts = d_put h s i r l refl; placed = l.placed; reads = l.reads; last = l.last; entries = l.entries; counted = (tt, l.counted) }
+linked_rule net {s} h v l (replies p m k first r b e) = record { begun = l.begun; origins = l.origins; drafts = l.drafts; placed = l.placed; reads = l.reads; last = l.last; entries = l.entries; counted = (tt, l.counted) }
+linked_rule net {s} h v l (receives p m k shown a b e) =
     let r = reading_at m.bound (s.vis.records m.tx) in
     record {
       begun = l.begun;
@@ -120,13 +118,13 @@ linked_rule net {s} {c = call} {a = told} h v l (receives p m k shown a b e) = s
       last = l.last;
       entries = ap (λ (x : List Reading). x ++ record { tx = m.tx; key = k; writer = writer_of shown } ∷ []) l.entries;
       counted = (tt, l.counted);
-    })
-linked_rule net {s} {c = call} {a = told} h v l (agrees p m lines r b n e) = subst (λ (w : Visible). Linked (after call told h) (on s w)) (sym e) (record { begun = l.begun; origins = l.origins; drafts = l.drafts; placed = l.placed; reads = l.reads; last = l.last; entries = l.entries; counted = (tt, l.counted) })
-linked_rule net {s} {c = call} {a = told} h v l (objects p m lines k r b y e) = subst (λ (w : Visible). Linked (after call told h) (on s w)) (sym e) (record { begun = l.begun; origins = l.origins; drafts = l.drafts; placed = l.placed; reads = l.reads; last = l.last; entries = l.entries; counted = (tt, l.counted) })
-linked_rule net {s} {c = call} {a = told} h v l (counts p m named r b q e) = subst (λ (w : Visible). Linked (after call told h) (on s w)) (sym e) (
-    let r = voting Closing _ (either (s.vis.records m.tx).named named) (s.vis.records m.tx) in
-    record { begun = l.begun; origins = o_put h s m.tx r l refl; drafts = d_put h s m.tx r l refl; placed = l.placed; reads = l.reads; last = l.last; entries = l.entries; counted = (tt, l.counted) })
-linked_rule net {s} {c = call} {a = told} h v l (grants p m named r b one q e) = subst (λ (w : Visible). Linked (after call told h) (placing s (placement s.vis m.tx) w)) (sym e) (
+    }
+linked_rule net {s} h v l (agrees p m lines r b n e) = record { begun = l.begun; origins = l.origins; drafts = l.drafts; placed = l.placed; reads = l.reads; last = l.last; entries = l.entries; counted = (tt, l.counted) }
+linked_rule net {s} h v l (objects p m lines k r b y e) = record { begun = l.begun; origins = l.origins; drafts = l.drafts; placed = l.placed; reads = l.reads; last = l.last; entries = l.entries; counted = (tt, l.counted) }
+linked_rule net {s} h v l (counts p m named r b q e) =
+    let r = voting Closing _ (option_or (s.vis.records m.tx).named named) (s.vis.records m.tx) in
+    record { begun = l.begun; origins = o_put h s m.tx r l refl; drafts = d_put h s m.tx r l refl; placed = l.placed; reads = l.reads; last = l.last; entries = l.entries; counted = (tt, l.counted) }
+linked_rule net {s} h v l (grants p m named r b one q e) =
     let o = (s.vis.records m.tx).origin in
     let r = granted_record s.vis m.tx in
     record {
@@ -137,16 +135,16 @@ linked_rule net {s} {c = call} {a = told} h v l (grants p m named r b one q e) =
       reads = l.reads;
       last = ap suc l.last;
       entries = l.entries;
-      counted = (ap suc (l.last ∙ sym (length_txs s.placed) ∙ ap length l.placed), l.counted);
-    })
-linked_rule net {s} {c = call} {a = told} h v l (refuses p m named k r b one q e) = subst (λ (w : Visible). Linked (after call told h) (on s w)) (sym e) (
+      counted = (ap suc (l.last ∙ sym (length-map s.placed (λ (T : Placement). T.tx)) ∙ ap length l.placed), l.counted);
+    }
+linked_rule net {s} h v l (refuses p m named k r b one q e) =
     let r = voting Refused 0 (Some k) (s.vis.records m.tx) in
-    record { begun = l.begun; origins = o_put h s m.tx r l refl; drafts = d_put h s m.tx r l refl; placed = l.placed; reads = l.reads; last = l.last; entries = l.entries; counted = (tt, l.counted) })
-linked_rule net {s} {c = call} {a = told} h v l (takes_in p m n lines r b q e) = subst (λ (w : Visible). Linked (after call told h) (on s w)) (sym e) (record { begun = l.begun; origins = l.origins; drafts = l.drafts; placed = l.placed; reads = l.reads; last = l.last; entries = l.entries; counted = (tt, l.counted) })
-linked_rule net {s} {c = call} {a = told} h v l (releases p m a b e) = subst (λ (w : Visible). Linked (after call told h) (on s w)) (sym e) (record { begun = l.begun; origins = l.origins; drafts = l.drafts; placed = l.placed; reads = l.reads; last = l.last; entries = l.entries; counted = (tt, l.counted) })
+    record { begun = l.begun; origins = o_put h s m.tx r l refl; drafts = d_put h s m.tx r l refl; placed = l.placed; reads = l.reads; last = l.last; entries = l.entries; counted = (tt, l.counted) }
+linked_rule net {s} h v l (takes_in p m n lines r b q e) = record { begun = l.begun; origins = l.origins; drafts = l.drafts; placed = l.placed; reads = l.reads; last = l.last; entries = l.entries; counted = (tt, l.counted) }
+linked_rule net {s} h v l (releases p m a b e) = record { begun = l.begun; origins = l.origins; drafts = l.drafts; placed = l.placed; reads = l.reads; last = l.last; entries = l.entries; counted = (tt, l.counted) }
 
-linked_step : (net : Net) {s : State} {v' : Visible} {c : Call} {a : Told} (h : List Event) → Invariant net s → Linked h s → (x : Step net s.vis v' c a) → Linked (after c a h) (after-step net s x)
-linked_step net {s} {c = call} {a = told} h v l (fails f _ e) = subst (λ (w : Visible). Linked (after call told h) (on s w)) (sym e) (record { begun = l.begun; origins = l.origins; drafts = l.drafts; placed = l.placed; reads = l.reads; last = l.last; entries = l.entries; counted = (tt, l.counted) })
+linked_step : (net : Net) {s : State} {v' : Visible} {c : Call} {a : Result Told Cause} (h : List Event) → Invariant net s → Linked h s → (x : Step net s.vis v' c a) → Linked (after c a h) (after-step net s x)
+linked_step net {s} h v l (fails f _ e) = record { begun = l.begun; origins = l.origins; drafts = l.drafts; placed = l.placed; reads = l.reads; last = l.last; entries = l.entries; counted = (tt, l.counted) }
 linked_step net h v l (obeys _ x) = linked_rule net h v l x
 
 pub run_linked : (net : Net) {h : List Event} {s : State} → Logged net h s → Linked h s

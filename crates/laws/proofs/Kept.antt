@@ -1,34 +1,36 @@
 -- A key is held once, and what is granted with drafts is placed. Assumes nothing.
-use Rattle.std.proofs.Common.{◌≡◌, ℕ, zero, suc, pred, ◌+◌, ◌<◌, ◌≤◌, Bool, true, false, cond, not, ◌&&◌, eqb, ◌≢◌, ◌⊎◌, List, [], ◌∷◌, ◌++◌, length, Some, None, sym, refl, ap, ◌∙◌, subst, inl, inr, arith}
+use Rattle.std.proofs.Common.{◌≡◌, ℕ, pred, ◌+◌, ◌<◌, ◌≤◌, Bool, true, false, cond, not, ◌&&◌, eqb, ◌⊎◌, List, [], ◌∷◌, ◌++◌, map, length, Some, None, Option, sym, refl, ap, ◌∙◌, subst, inl, inr, arith}
+use Rattle.std.specs.Option.{option_or, unwrap_or}
+use Rattle.std.proofs.lemmas.List.{length-map}
 use Rattle.std.proofs.lemmas.Bool.{eq-eqb, ne_eqb, eqb-true, cases_eq, cases_Bool, both_ways, and_parts, and_from, and_left, and_right}
 use Rattle.messages.specs.declared.Draft.{Draft}
 use Rattle.tables.specs.declared.Held.{Held}
 use Rattle.tables.specs.declared.Call.{Call}
 use Rattle.tables.specs.declared.Told.{Told}
 use Rattle.tables.specs.declared.Phase.TheVariants.{Open, Waiting, Closing, Granted, Refused, Dropped}
-use Rattle.laws.proofs.Conflicts.{Conflicts, taken_by, unopposed, none-some}
-use Rattle.laws.specs.Lists.{put, In, At, without, tally, either}
+use Rattle.laws.proofs.Conflicts.{Conflicts, taken_by, unopposed}
+use Rattle.laws.specs.Lists.{put, In, At, without, tally}
 use Rattle.laws.specs.Net.{Clock, Record, Body, query, answer, prepare, vote, granted, refused, Message, Placement, Net, Drafted, newest_within, has_closed, is_ballot}
-use Rattle.laws.specs.Words.{opened, in_phase, drafting, reading_at, voting, placed_as, message, redrafted, unless_none, holds_of, homed, freed, prepares, prepare_to, grants_to, refusals_to, Event}
-use Rattle.laws.specs.History.{placed_in, number_of, number_in, place_of, from_one}
+use Rattle.laws.specs.Words.{opened, in_phase, drafting, reading_at, voting, placed_as, message, redrafted, holds_of, homed, freed, prepares, grants_to, refusals_to, Event}
+use Rattle.laws.specs.History.{placed_in, number_of, number_in, place_of}
 use Rattle.laws.specs.Rules.{Run, Rule, agrees, asks, begins, closes, closes_empty, counts, drafts, drops, grants, receives, releases, reads_own, objects, refuses, replies, takes_in}
-use Rattle.laws.specs.State.{granted_record, placement, Visible}
+use Rattle.laws.specs.State.{granted_record, Visible}
 use Rattle.laws.specs.Further.{Always, HeldOnce, RecordsAgree}
-use Rattle.laws.proofs.Model.{Logged, State, by_step, log_of, next, noting, on, placing, start, then}
+use Rattle.laws.proofs.Model.{Logged, State, by_step, log_of, next, start, then}
 use Rattle.laws.proofs.Lists.{put_case, in_at, in_append, in_without, tally-append, tally_at, tally-none, none_left}
+use Rattle.laws.proofs.Sent.{prepares-most, each-prepare, each_grant, each-refusal}
 use Rattle.laws.proofs.Placed.{drafted?, number_pos}
 use Rattle.laws.proofs.Invariant.{Holds, Invariant}
 use Rattle.laws.proofs.Frames.{differ, only, no_intent, holds_freed}
-use Rattle.laws.proofs.Calls.{homed-drafted, each-prepare}
-use Rattle.laws.proofs.Voting.{holds_cases, each-refusal}
-use Rattle.laws.proofs.Granting.{each_grant}
+use Rattle.laws.proofs.Calls.{homed-drafted}
+use Rattle.laws.proofs.Voting.{holds_cases}
 use Rattle.laws.proofs.Stand.{run_holds, intent_drafted}
-use Rattle.laws.proofs.More.{drafts_of, More, run_more, those_fewer}
-use Rattle.laws.proofs.Histories.{txs, length_txs, Linked, run_linked}
+use Rattle.laws.proofs.More.{drafts_of, More, run_more, filter_fewer}
+use Rattle.laws.proofs.Histories.{txs, Linked, run_linked}
 use Rattle.laws.proofs.Places.{Places, run-places}
 use Rattle.laws.proofs.Lawful.{placed_at, numbered_as}
 use Rattle.laws.proofs.Further.{always}
-use Rattle.laws.proofs.Few.{total, total_length, total_few}
+use Rattle.laws.proofs.Few.{few}
 use Rattle.laws.proofs.Fits.{drafted_fit, in_range}
 
 abbrev is_prepare : Body → Bool
@@ -80,39 +82,20 @@ unheld_fewer : (net : Net) (hs gs : List Held) (air : List Message) → ((k i : 
 unheld_fewer net hs gs air f g m ls k h b q x = g m ls k h b q (f k m.tx x)
 
 once-freed : (net : Net) (i t : ℕ) (hs : List Held) → Once hs → Once (freed net i t hs)
-once-freed net i t hs g k = omega (arith, g k, those_fewer (λ h. eqb h.key k) (λ h. not (eqb h.tx i && eqb (net.home h.key) t)) hs)
+once-freed net i t hs g k = omega (arith, g k, filter_fewer (λ h. eqb h.key k) (λ h. not (eqb h.tx i && eqb (net.home h.key) t)) hs)
 
 won_put : (P : List Placement) (rs : ℕ → Record) (i : ℕ) (r : Record) → Won P rs → (r.phase ≡ Granted → (r.drafts ≡ []) ⊎ In i (txs P)) → Won P (put rs i r)
 won_put P rs i r g f = put_case (λ j x. x.phase ≡ Granted → (x.drafts ≡ []) ⊎ In j (txs P)) rs i r f (λ j _. g j)
 
 -- ## A transaction closes
 
-prepares-most : (net : Net) (i : ℕ) (r : Record) (q : Message → Bool) (t : ℕ) → ((u : ℕ) → u ≢ t → q (prepare_to net i r u) ≡ false) → (n : ℕ) → (n ≤ t → tally q (prepares net i r n) ≡ 0) × (tally q (prepares net i r n) ≤ 1)
-prepares-most net i r q t f zero = ((λ _. refl), omega arith)
-prepares-most net i r q t f (suc n) =
-    let ih = prepares-most net i r q t f n in
-    let more = tally-append q (prepares net i r n) (unless_none (homed net n r.drafts) (prepare_to net i r n)) in
-    ((λ l. omega (arith, more, ih.0 (omega arith), none (homed net n r.drafts) (λ e. omega (arith, e, l)))), go more ih (cases_eq n t))
-  where
-    none : (ds : List Draft) → (n ≡ t → ⊥) → tally q (unless_none ds (prepare_to net i r n)) ≡ 0
-    none [] d = refl
-    none (x ∷ ds) d = rw (f n d)
-
-    most : (ds : List Draft) → tally q (unless_none ds (prepare_to net i r n)) ≤ 1
-    most [] = omega arith
-    most (x ∷ ds) = elim (q (prepare_to net i r n)) as (λ b. cond b 1 0 + 0 ≤ 1) [ true ↦ omega arith | false ↦ omega arith ]
-
-    go : tally q (prepares net i r (suc n)) ≡ tally q (prepares net i r n) + tally q (unless_none (homed net n r.drafts) (prepare_to net i r n)) → (n ≤ t → tally q (prepares net i r n) ≡ 0) × (tally q (prepares net i r n) ≤ 1) → (n ≡ t) ⊎ (n ≡ t → ⊥) → tally q (prepares net i r (suc n)) ≤ 1
-    go more ih (inl e) = omega (arith, more, ih.0 (omega arith), most (homed net n r.drafts))
-    go more ih (inr d) = omega (arith, more, ih.1, none (homed net n r.drafts) d)
-
 prepare_ballot : (b : Body) → is_prepare b ≡ true → is_ballot b ≡ true
-prepare_ballot (query k f) e = absurd (both_ways false refl e)
-prepare_ballot (answer k v) e = absurd (both_ways false refl e)
+prepare_ballot (query k f) e = absurd (cc e)
+prepare_ballot (answer k v) e = absurd (cc e)
 prepare_ballot (prepare ls) e = refl
 prepare_ballot (vote n) e = refl
-prepare_ballot (granted n ls) e = absurd (both_ways false refl e)
-prepare_ballot refused e = absurd (both_ways false refl e)
+prepare_ballot (granted n ls) e = absurd (cc e)
+prepare_ballot refused e = absurd (cc e)
 
 module _ (net : Net) (s : State) (i : ℕ) (v : Invariant net s) (g : Kept net s) (o : (s.vis.records i).phase ≡ Open) where
   abbrev asks_of : List Message
@@ -135,7 +118,7 @@ module _ (net : Net) (s : State) (i : ℕ) (v : Invariant net s) (g : Kept net s
         arith,
         tally-append (prepare_of j t) s.vis.air asks_of,
         tally-none (prepare_of j t) s.vis.air (quiet q),
-        (prepares-most net i (s.vis.records i) (prepare_of j t) t (λ u d. and_right (eqb i j) _ (and_left (eqb u t) _ (ne_eqb u t d))) net.towers).1,
+        prepares-most net i (s.vis.records i) (prepare_of j t) t (λ u d. and_right (eqb i j) _ (and_left (eqb u t) _ (ne_eqb u t d))) net.towers,
       )
       go (inr d) = omega (
         arith,
@@ -183,7 +166,7 @@ module _ (net : Net) (s : State) (p : ℕ) (m : Message) (lines : List Draft) (v
       both = tally-append (λ h. eqb h.key k) s.vis.held (holds_of m.tx m.from lines) ∙ ap (λ (z : ℕ). tally (λ h. eqb h.key k) s.vis.held + z) (holds_tally m.tx m.from lines k)
 
       few : drafts_of k lines ≤ 1
-      few = subst (λ (ds : List Draft). drafts_of k ds ≤ 1) (sym the_lines) (omega (arith, more.tidy m.tx k, those_fewer (λ d. eqb d.key k) (λ d. eqb (net.home d.key) m.to) (s.vis.records m.tx).drafts))
+      few = subst (λ (ds : List Draft). drafts_of k ds ≤ 1) (sym the_lines) (omega (arith, more.tidy m.tx k, filter_fewer (λ d. eqb d.key k) (λ d. eqb (net.home d.key) m.to) (s.vis.records m.tx).drafts))
 
       free : Drafted lines k → (h : Held) → In h s.vis.held → eqb h.key k ≡ false
       free d h q = ne_eqb h.key k (λ e. elim (cases_eq h.tx m.tx) [
@@ -198,26 +181,26 @@ module _ (net : Net) (s : State) (p : ℕ) (m : Message) (lines : List Draft) (v
 -- ## The steps
 
 rule_kept : (net : Net) {s : State} {v' : Visible} {c : Call} {a : Told} → Invariant net s → More net s → Kept net s → (x : Rule net s.vis v' c a) → Kept net (next net s x)
-rule_kept net {s} v r g (begins t l _ e) = subst (λ (w : Visible). Kept net (on s w)) (sym e) (record { once = g.once; lone = g.lone; unheld = g.unheld; won = won_put s.placed s.vis.records s.vis.begun (opened t (s.vis.clocks t)) g.won (λ x. absurd (differ Open Granted refl refl x)) })
-rule_kept net {s} v r g (reads_own i k d o h e) = subst (λ (w : Visible). Kept net (on s w)) (sym e) g
-rule_kept net {s} v r g (asks i k o _ n e) = subst (λ (w : Visible). Kept net (on s w)) (sym e) (
+rule_kept net {s} v r g (begins t l _ e) = record { once = g.once; lone = g.lone; unheld = g.unheld; won = won_put s.placed s.vis.records s.vis.begun (opened t (s.vis.clocks t)) g.won (λ x. absurd (differ Open Granted refl refl x)) }
+rule_kept net {s} v r g (reads_own i k d o h e) = g
+rule_kept net {s} v r g (asks i k o _ n e) =
     let q = message i (s.vis.records i).origin (net.home k) (s.vis.records i).bound (query k (not (s.vis.records i).answered)) in
     record {
       once = g.once;
       lone = lone_sent s.vis.air (q ∷ []) (only (λ x. is_prepare x.body ≡ false) q refl) g.lone;
       unheld = unheld_sent net s.vis.held s.vis.air (q ∷ []) (only (λ x. is_prepare x.body ≡ false) q refl) g.unheld;
       won = won_put s.placed s.vis.records i (in_phase Waiting (s.vis.records i)) g.won (λ x. absurd (differ Waiting Granted refl refl x));
-    })
-rule_kept net {s} v r g (drafts i k w o _ _ e) = subst (λ (w : Visible). Kept net (on s w)) (sym e) (record { once = g.once; lone = g.lone; unheld = g.unheld; won = won_put s.placed s.vis.records i (drafting (redrafted k w (s.vis.records i).drafts) (s.vis.records i)) g.won (λ x. absurd (differ Open Granted refl o x)) })
-rule_kept net {s} v r g (drops i o e) = subst (λ (w : Visible). Kept net (on s w)) (sym e) (record { once = g.once; lone = g.lone; unheld = g.unheld; won = won_put s.placed s.vis.records i (in_phase Dropped (s.vis.records i)) g.won (λ x. absurd (differ Dropped Granted refl refl x)) })
-rule_kept net {s} v r g (closes_empty i o n e) = subst (λ (w : Visible). Kept net (on s w)) (sym e) (record { once = g.once; lone = g.lone; unheld = g.unheld; won = won_put s.placed s.vis.records i (voting Granted 0 None (s.vis.records i)) g.won (λ _. inl n) })
-rule_kept net {s} v r g (closes i o n e) = subst (λ (w : Visible). Kept net (on s w)) (sym e) (record {
+    }
+rule_kept net {s} v r g (drafts i k w o _ _ e) = record { once = g.once; lone = g.lone; unheld = g.unheld; won = won_put s.placed s.vis.records i (drafting (redrafted k w (s.vis.records i).drafts) (s.vis.records i)) g.won (λ x. absurd (differ Open Granted refl o x)) }
+rule_kept net {s} v r g (drops i o e) = record { once = g.once; lone = g.lone; unheld = g.unheld; won = won_put s.placed s.vis.records i (in_phase Dropped (s.vis.records i)) g.won (λ x. absurd (differ Dropped Granted refl refl x)) }
+rule_kept net {s} v r g (closes_empty i o n e) = record { once = g.once; lone = g.lone; unheld = g.unheld; won = won_put s.placed s.vis.records i (voting Granted 0 None (s.vis.records i)) g.won (λ _. inl n) }
+rule_kept net {s} v r g (closes i o n e) = record {
   once = g.once;
   lone = closes_lone net s i v g o;
   unheld = closes_unheld net s i v g o;
   won = won_put s.placed s.vis.records i (voting Closing (length (prepares net i (s.vis.records i) net.towers)) None (s.vis.records i)) g.won (λ x. absurd (differ Closing Granted refl refl x));
-})
-rule_kept net {s} v r g (replies p m k first a b e) = subst (λ (w : Visible). Kept net (on s w)) (sym e) (
+}
+rule_kept net {s} v r g (replies p m k first a b e) =
     let c : Clock = cond first (s.vis.clocks m.to) m.bound in
     let q = message m.tx m.to m.from c (answer k (newest_within c (s.vis.book k))) in
     record {
@@ -225,36 +208,36 @@ rule_kept net {s} v r g (replies p m k first a b e) = subst (λ (w : Visible). K
       lone = lone_sent (without s.vis.air p) (q ∷ []) (only (λ x. is_prepare x.body ≡ false) q refl) (lone_landed s.vis.air p m a.there g.lone);
       unheld = unheld_sent net s.vis.held (without s.vis.air p) (q ∷ []) (only (λ x. is_prepare x.body ≡ false) q refl) (unheld_landed net s.vis.held s.vis.air p g.unheld);
       won = g.won;
-    })
-rule_kept net {s} v r g (receives p m k shown a b e) = subst (λ (w : Visible). Kept net (noting s (record { tx = m.tx; key = k; shown = shown }) w)) (sym e) (record {
+    }
+rule_kept net {s} v r g (receives p m k shown a b e) = record {
   once = g.once;
   lone = lone_landed s.vis.air p m a g.lone;
   unheld = unheld_landed net s.vis.held s.vis.air p g.unheld;
   won = won_put s.placed s.vis.records m.tx (reading_at m.bound (s.vis.records m.tx)) g.won (λ x. absurd (differ Open Granted refl refl x));
-})
-rule_kept net {s} v r g (agrees p m lines a b n e) = subst (λ (w : Visible). Kept net (on s w)) (sym e) (
+}
+rule_kept net {s} v r g (agrees p m lines a b n e) =
     let q = message m.tx m.to m.from m.bound (vote None) in
     record {
       once = agrees-once net s p m lines v g r a.there b (unopposed net s.vis m lines n);
       lone = lone_sent (without s.vis.air p) (q ∷ []) (only (λ x. is_prepare x.body ≡ false) q refl) (lone_landed s.vis.air p m a.there g.lone);
       unheld = unheld_sent net (s.vis.held ++ holds_of m.tx m.from lines) (without s.vis.air p) (q ∷ []) (only (λ x. is_prepare x.body ≡ false) q refl) (agrees_unheld net s p m lines v g r a.there b (unopposed net s.vis m lines n));
       won = g.won;
-    })
-rule_kept net {s} v r g (objects p m lines k a b y e) = subst (λ (w : Visible). Kept net (on s w)) (sym e) (
+    }
+rule_kept net {s} v r g (objects p m lines k a b y e) =
     let q = message m.tx m.to m.from m.bound (vote (Some k)) in
     record {
       once = g.once;
       lone = lone_sent (without s.vis.air p) (q ∷ []) (only (λ x. is_prepare x.body ≡ false) q refl) (lone_landed s.vis.air p m a.there g.lone);
       unheld = unheld_sent net s.vis.held (without s.vis.air p) (q ∷ []) (only (λ x. is_prepare x.body ≡ false) q refl) (unheld_landed net s.vis.held s.vis.air p g.unheld);
       won = g.won;
-    })
-rule_kept net {s} v r g (counts p m named a b l e) = subst (λ (w : Visible). Kept net (on s w)) (sym e) (record {
+    }
+rule_kept net {s} v r g (counts p m named a b l e) = record {
   once = g.once;
   lone = lone_landed s.vis.air p m a.there g.lone;
   unheld = unheld_landed net s.vis.held s.vis.air p g.unheld;
-  won = won_put s.placed s.vis.records m.tx (voting Closing (pred (s.vis.records m.tx).awaited) (either (s.vis.records m.tx).named named) (s.vis.records m.tx)) g.won (λ x. absurd (differ Closing Granted refl refl x));
-})
-rule_kept net {s} v r g (grants p m named a b l q e) = subst (λ (w : Visible). Kept net (placing s (placement s.vis m.tx) w)) (sym e) (
+  won = won_put s.placed s.vis.records m.tx (voting Closing (pred (s.vis.records m.tx).awaited) (option_or (s.vis.records m.tx).named named) (s.vis.records m.tx)) g.won (λ x. absurd (differ Closing Granted refl refl x));
+}
+rule_kept net {s} v r g (grants p m named a b l q e) =
     let i = m.tx in
     let o = (s.vis.records i).origin in
     let w = granted_record s.vis i in
@@ -266,8 +249,8 @@ rule_kept net {s} v r g (grants p m named a b l q e) = subst (λ (w : Visible). 
       lone = lone_sent (without s.vis.air p) ms each (lone_landed s.vis.air p m a.there g.lone);
       unheld = unheld_sent net (freed net i o s.vis.held) (without s.vis.air p) ms each (unheld_fewer net s.vis.held (freed net i o s.vis.held) (without s.vis.air p) (holds_freed net i o s.vis.held) (unheld_landed net s.vis.held s.vis.air p g.unheld));
       won = won_put (T ∷ s.placed) s.vis.records i w (λ j x. elim (g.won j x) [ inl y ↦ inl y | inr y ↦ inr (inr y) ]) (λ _. inr (inl refl));
-    })
-rule_kept net {s} v r g (refuses p m named k a b l q e) = subst (λ (w : Visible). Kept net (on s w)) (sym e) (
+    }
+rule_kept net {s} v r g (refuses p m named k a b l q e) =
     let i = m.tx in
     let w = voting Refused 0 (Some k) (s.vis.records i) in
     let ms = refusals_to net i (s.vis.records i) net.towers in
@@ -277,45 +260,40 @@ rule_kept net {s} v r g (refuses p m named k a b l q e) = subst (λ (w : Visible
       lone = lone_sent (without s.vis.air p) ms each (lone_landed s.vis.air p m a.there g.lone);
       unheld = unheld_sent net (freed net i w.origin s.vis.held) (without s.vis.air p) ms each (unheld_fewer net s.vis.held (freed net i w.origin s.vis.held) (without s.vis.air p) (holds_freed net i w.origin s.vis.held) (unheld_landed net s.vis.held s.vis.air p g.unheld));
       won = won_put s.placed s.vis.records i w g.won (λ x. absurd (differ Refused Granted refl refl x));
-    })
-rule_kept net {s} v r g (takes_in p m n lines a b l e) = subst (λ (w : Visible). Kept net (on s w)) (sym e) (record {
+    }
+rule_kept net {s} v r g (takes_in p m n lines a b l e) = record {
   once = once-freed net m.tx m.to s.vis.held g.once;
   lone = lone_landed s.vis.air p m a.there g.lone;
   unheld = unheld_fewer net s.vis.held (freed net m.tx m.to s.vis.held) (without s.vis.air p) (holds_freed net m.tx m.to s.vis.held) (unheld_landed net s.vis.held s.vis.air p g.unheld);
   won = g.won;
-})
-rule_kept net {s} v r g (releases p m a b e) = subst (λ (w : Visible). Kept net (on s w)) (sym e) (record {
+}
+rule_kept net {s} v r g (releases p m a b e) = record {
   once = once-freed net m.tx m.to s.vis.held g.once;
   lone = lone_landed s.vis.air p m a g.lone;
   unheld = unheld_fewer net s.vis.held (freed net m.tx m.to s.vis.held) (without s.vis.air p) (holds_freed net m.tx m.to s.vis.held) (unheld_landed net s.vis.held s.vis.air p g.unheld);
   won = g.won;
-})
+}
 
 pub run_kept : (net : Net) {h : List Event} {s : State} → Logged net h s → Kept net s
 run_kept net start = record { once = λ k. omega arith; lone = λ i t. omega arith; unheld = λ m ls k h. absurd h; won = λ i c. absurd (differ Dropped Granted refl refl c) }
-run_kept net (then {s = s} r x) = by_step net (Kept net) s (run_kept net r) (rule_kept net (run_holds net r) (run_more net r) (run_kept net r)) x
+run_kept net (then {s = s} r x) = by_step net (Kept net) s (run_kept net r) (λ _. rule_kept net (run_holds net r) (run_more net r) (run_kept net r)) x
 
 -- ## The laws
 
 abbrev keys_of : List Held → List ℕ
-keys_of [] = []
-keys_of (h ∷ hs) = h.key ∷ keys_of hs
+keys_of hs = map (λ (h : Held). h.key) hs
 
 keys-tally : (hs : List Held) (k : ℕ) → tally (λ x. eqb x k) (keys_of hs) ≡ tally (λ h. eqb h.key k) hs
 keys-tally [] k = refl
 keys-tally (h ∷ hs) k = rw (keys-tally hs k)
-
-keys_length : (hs : List Held) → length (keys_of hs) ≡ length hs
-keys_length [] = refl
-keys_length (h ∷ hs) = ap suc (keys_length hs)
 
 keys_in : (hs : List Held) (k : ℕ) → In k (keys_of hs) → (h : Held) × In h hs × (h.key ≡ k)
 keys_in [] k q = absurd q
 keys_in (h ∷ hs) k (inl e) = (h, inl refl, sym e)
 keys_in (h ∷ hs) k (inr q) = let r = keys_in hs k q in (r.0, inr r.1, r.2)
 
-pub held-once : Always HeldOnce
-held-once net h v r =
+pub held_once : Always HeldOnce
+held_once net h v r =
     let x = log_of net r in
     let s = x.0 in
     let i = run_holds net x.1 in
@@ -326,36 +304,34 @@ held-once net h v r =
     let y = keys_in s.vis.held k q in
     let d = intent_drafted (s.vis.records y.0.tx) k (i.holders.meant k y.0.tx (y.0, y.1, y.2, refl)) in
     drafted_fit net (λ _. true) (s.vis.records y.0.tx).drafts k (range.records y.0.tx).drafts.each d.1 in
-    let few : total net.keys (keys_of s.vis.held) ≤ net.keys = total_few (keys_of s.vis.held) (λ k. omega (arith, keys-tally s.vis.held k, g.once k)) net.keys in
     subst (HeldOnce net h) x.2 (record {
       once = g.once;
-      enough = omega (arith, few, total_length net.keys (keys_of s.vis.held) below, keys_length s.vis.held);
+      enough = omega (arith, length-map s.vis.held (λ (h : Held). h.key), few net.keys (keys_of s.vis.held) below (λ k. omega (arith, keys-tally s.vis.held k, g.once k)));
     })
 
 -- what is not placed has no number, and what is placed has its own
 place_in : (i n : ℕ) (is : List ℕ) → place_of i is ≡ Some n → In i is
-place_in i n [] e = absurd (none-some refl e)
+place_in i n [] e = absurd (cc e)
 place_in i n (j ∷ is) e = elim (cases_eq j i) [ inl q ↦ inl (sym q) | inr q ↦ inr (place_in i n is (rw (ne_eqb j i q) at e)) ]
 
 number-none : (h : List Event) (i : ℕ) (is : List ℕ) → place_of i is ≡ None → number_of h i is ≡ None
 number-none h i [] e = refl
 number-none h i (j ∷ is) e = elim (cases_eq j i) [
-  | inl q ↦ absurd (none-some (rw (eq-eqb j i q) at e) refl)
+  | inl q ↦ absurd (cc (rw (eq-eqb j i q) at e))
   | inr q ↦ rw (ne_eqb j i q) (number-none h i is (rw (ne_eqb j i q) at e))
 ]
 
-counts-from_one : (n : ℕ) → 1 ≤ n → from_one n ≡ Some n
-counts-from_one zero l = absurd (omega (arith, l))
-counts-from_one (suc n) l = refl
+has_number : (o : Option ℕ) (n : ℕ) → 1 ≤ n → n ≡ unwrap_or o 0 → Some n ≡ o
+has_number None n l e = absurd (omega (arith, l, e))
+has_number (Some m) n l e = ap Some e
 
-number_is : (net : Net) (h : List Event) (s : State) → Invariant net s → Linked h s → Places s → (i n : ℕ) → (s.vis.records i).place ≡ n → number_in h i ≡ from_one (s.vis.records i).number
-number_is net h s v l g i zero e =
-    number-none h i (placed_in h) (ap (place_of i) (sym l.placed) ∙ g.place i ∙ ap from_one e) ∙ sym (ap from_one (g.number i e))
-number_is net h s v l g i (suc n) e =
-    let y = placed_at s.placed i (place_in i (suc n) (txs s.placed) (g.place i ∙ ap from_one e)) in
+number_is : (net : Net) (h : List Event) (s : State) → Invariant net s → Linked h s → Places s → (i : ℕ) (o : Option ℕ) → (s.vis.records i).place ≡ o → number_in h i ≡ (s.vis.records i).number
+number_is net h s v l g i None e = number-none h i (placed_in h) (ap (place_of i) (sym l.placed) ∙ g.place i ∙ e) ∙ sym (g.number i e)
+number_is net h s v l g i (Some n) e =
+    let y = placed_at s.placed i (place_in i n (txs s.placed) (g.place i ∙ e)) in
     let E = y.0 in
-    let q : E.number ≡ (s.vis.records i).number = ap (λ (F : Placement). F.number) (v.granteds E y.1).1 ∙ ap (λ (j : ℕ). (s.vis.records j).number) y.2 in
-    ap (number_in h) (sym y.2) ∙ numbered_as net h s v l E y.1 ∙ sym (counts-from_one E.number (number_pos s.placed E v.order.numbered y.1)) ∙ ap from_one q
+    let q : E.number ≡ unwrap_or (s.vis.records i).number 0 = ap (λ (F : Placement). F.number) (v.granteds E y.1).1 ∙ ap (λ (j : ℕ). unwrap_or (s.vis.records j).number 0) y.2 in
+    ap (number_in h) (sym y.2) ∙ numbered_as net h s v l E y.1 ∙ has_number (s.vis.records i).number E.number (number_pos s.placed E v.order.numbered y.1) q
 
 agree : (net : Net) (h : List Event) (s : State) → Logged net h s → RecordsAgree net h s.vis
 agree net h s r =
@@ -363,7 +339,7 @@ agree net h s r =
     let l = run_linked net r in
     record {
       begun = l.begun;
-      last = l.last ∙ sym (length_txs s.placed) ∙ ap length l.placed;
+      last = l.last ∙ sym (length-map s.placed (λ (T : Placement). T.tx)) ∙ ap length l.placed;
       origin = l.origins;
       drafts = l.drafts;
       number = λ i. number_is net h s v l (run-places net r) i (s.vis.records i).place refl;

@@ -1,12 +1,13 @@
 -- The laws follow from the invariant, and from what the history tells. Assumes nothing.
 use Rattle.std.proofs.Common.{◌≡◌, ℕ, suc, ◌<◌, ◌≤◌, true, false, cond, eqb, ◌⊎◌, List, [], ◌∷◌, ◌++◌, Some, None, Option, sym, refl, ap, ◌∙◌, subst, inl, inr, arith}
+use Rattle.std.specs.Option.{option_or}
 use Rattle.std.proofs.lemmas.Bool.{eq-eqb, ne_eqb, cases_eq, cases_lt, cases_Bool, leb-true, leb-false}
 use Rattle.clocks.specs.declared.Version.{Version}
 use Rattle.messages.specs.declared.Draft.{Draft}
 use Rattle.tables.specs.declared.Phase.TheVariants.{Granted, Dropped}
 use Rattle.messages.specs.declared.Objection.{Objection}
 use Rattle.tables.specs.declared.Reading.{Reading}
-use Rattle.laws.specs.Lists.{In, tally, last_of, either}
+use Rattle.laws.specs.Lists.{In, tally, last_of}
 use Rattle.laws.specs.Net.{Clock, Placement, Net, Drafted, inside, newest_within}
 use Rattle.laws.proofs.Conflicts.{says_map, says-one}
 use Rattle.laws.proofs.Log.{versions, count, Seen}
@@ -52,7 +53,7 @@ module _ (h : List Event) where
       go ih (inr q) (inr g) = rw (ne_eqb _ _ q) (ih g)
 
   number-back : (P : List Placement) (i n : ℕ) → ToldOf P → Numbered P → number_of h i (txs P) ≡ Some n → (E : Placement) × In E P × (E.tx ≡ i) × (E.number ≡ n)
-  number-back [] i n t m e = let z : ◌≡◌ {A = ℕ} 0 1 = cc in absurd (omega arith)
+  number-back [] i n t m e = absurd cc
   number-back (T ∷ P) i n t m e = go (number-back P i n (λ E g. t E (inr g)) m.1) (cases_eq T.tx i) e
     where
       go : (number_of h i (txs P) ≡ Some n → (E : Placement) × In E P × (E.tx ≡ i) × (E.number ≡ n)) → (T.tx ≡ i) ⊎ (T.tx ≡ i → ⊥) →
@@ -96,7 +97,7 @@ last_within : (b : Clock) (xs : List Version) → LastWithin b xs (last_of (insi
 last_within b [] = λ x g. absurd g
 last_within b (x ∷ xs) = go (last_of (inside b) xs) (last_within b xs) (cases_Bool (inside b x))
   where
-    go : (o : Option Version) → LastWithin b xs o → (inside b x ≡ true) ⊎ (inside b x ≡ false) → LastWithin b (x ∷ xs) (either o (cond (inside b x) (Some x) None))
+    go : (o : Option Version) → LastWithin b xs o → (inside b x ≡ true) ⊎ (inside b x ≡ false) → LastWithin b (x ∷ xs) (option_or o (cond (inside b x) (Some x) None))
     go (Some y) (before, after, e, w, n) c = (x ∷ before, after, ap (λ (l : List Version). x ∷ l) e, w, n)
     go None n (inl c) = rw c ([], xs, refl, leb-true _ _ c, n)
     go None n (inr c) = rw c (λ y g. elim g [ inl e ↦ (λ w. absurd (outside y e w)) | inr g ↦ n y g ])

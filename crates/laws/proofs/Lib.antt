@@ -1,4 +1,5 @@
 pub mod Lists
+pub mod Sent
 pub mod Log
 pub mod Model
 pub mod Conflicts

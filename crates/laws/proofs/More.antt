@@ -1,6 +1,7 @@
 -- What else holds after every call: votes are awaited while a transaction closes, no key is drafted twice, no list is longer than
 -- the depth, a bound only grows, and outcomes are accounted for. Assumes nothing.
-use Rattle.std.proofs.Common.{◌≡◌, ℕ, zero, suc, pred, ◌+◌, ◌<◌, ◌≤◌, Bool, true, false, cond, not, ◌&&◌, eqb, ◌≢◌, ◌⊎◌, List, [], ◌∷◌, ◌++◌, length, Some, None, Option, sym, refl, ap, ◌∙◌, subst, inl, inr, arith, length-append}
+use Rattle.std.proofs.Common.{◌≡◌, ℕ, zero, suc, pred, ◌+◌, ◌<◌, ◌≤◌, Bool, true, false, cond, not, ◌&&◌, eqb, ◌≢◌, ◌⊎◌, List, [], ◌∷◌, ◌++◌, length, Some, None, filter, Option, sym, refl, ap, ◌∙◌, subst, inl, inr, arith, length-append}
+use Rattle.std.specs.Option.{option_or}
 use Rattle.std.proofs.lemmas.Bool.{eq-eqb, ne_eqb, cases_eq, both_ways, and_from}
 use Rattle.clocks.specs.declared.Version.{Version}
 use Rattle.messages.specs.declared.Draft.{Draft}
@@ -8,23 +9,23 @@ use Rattle.tables.specs.declared.Call.{Call}
 use Rattle.tables.specs.declared.Told.{Told}
 use Rattle.tables.specs.declared.Phase.TheVariants.{Open, Waiting, Closing, Granted, Refused, Dropped}
 use Rattle.messages.specs.declared.Objection.{Objection}
-use Rattle.laws.proofs.Conflicts.{either-none}
+use Rattle.laws.proofs.Conflicts.{option_or_parts}
 use Rattle.clocks.specs.declared.Content.{Content}
-use Rattle.laws.specs.Lists.{put, In, At, without, tally, those, either}
+use Rattle.laws.specs.Lists.{put, In, At, without, tally}
 use Rattle.laws.specs.Net.{Clock, Record, query, answer, prepare, vote, granted, refused, Message, Placement, Net, ◌⊑◌, Drafted, written, newest_within, is_ballot, is_granted}
 use Rattle.laws.proofs.Log.{Seen}
-use Rattle.laws.proofs.Model.{Logged, State, by_step, next, noting, on, placing, start, then}
+use Rattle.laws.proofs.Model.{Logged, State, by_step, next, on, start, then}
 use Rattle.laws.specs.Rules.{Ripe, Rule, agrees, asks, begins, begun_at, closed, closes, closes_empty, counts, drafts, drops, grants, receives, releases, reads_own, objects, refuses, replies, takes_in}
-use Rattle.laws.specs.State.{granted_record, placement, Visible, amended}
+use Rattle.laws.specs.State.{granted_record, Visible, amended}
 use Rattle.laws.specs.Words.{opened, in_phase, drafting, reading_at, voting, placed_as, message, redrafted, homed, prepares, prepare_to, granted_to, grants_to, refusals_to, Event}
 use Rattle.laws.proofs.Lists.{put_other, put_all, put_keeps, in_at, in_append, in_without, none_left}
+use Rattle.laws.proofs.Sent.{each-prepare, each_grant, each-refusal}
 use Rattle.laws.proofs.Placed.{drafted?, written_none}
 use Rattle.laws.proofs.Invariant.{Holds, Invariant, is_read}
 use Rattle.laws.proofs.Frames.{only, differ, placed-other, outcomes_landed}
-use Rattle.laws.proofs.Calls.{homed-drafted, prepares_has, each-prepare}
-use Rattle.laws.proofs.Voting.{each-refusal}
+use Rattle.laws.proofs.Calls.{homed-drafted, prepares_has}
 use Rattle.laws.proofs.TakeIn.{passed, added}
-use Rattle.laws.proofs.Granting.{grants_holds, each_grant}
+use Rattle.laws.proofs.Granting.{grants_holds}
 use Rattle.laws.proofs.Ranges.{message-begun}
 use Rattle.laws.proofs.Stand.{run_holds}
 use Rattle.laws.proofs.Owed.{Owed, owed_landed, owed_sent, took_owed, grants_owed}
@@ -115,18 +116,15 @@ length-written w o n (d ∷ ds) k = go (length-written w o n ds k) (eqb d.key k)
     go ih true = omega (arith, ih)
     go ih false = omega (arith, ih)
 
-pub those_fewer : {A : Type 0} (q f : A → Bool) (xs : List A) → tally q (those f xs) ≤ tally q xs
-those_fewer q f [] = omega arith
-those_fewer q f (x ∷ xs) = go (those_fewer q f xs) (f x)
+pub filter_fewer : {A : Type 0} (q f : A → Bool) (xs : List A) → tally q (filter f xs) ≤ tally q xs
+filter_fewer q f [] = omega arith
+filter_fewer q f (x ∷ xs) = go (filter_fewer q f xs) (f x)
   where
-    go : tally q (those f xs) ≤ tally q xs → (b : Bool) → tally q (cond b (x ∷ those f xs) (those f xs)) ≤ tally q (x ∷ xs)
+    go : tally q (filter f xs) ≤ tally q xs → (b : Bool) → tally q (cond b (x ∷ filter f xs) (filter f xs)) ≤ tally q (x ∷ xs)
     go ih true = omega (arith, ih)
     go ih false = omega (arith, ih)
 
 -- ## Room
-
-pub below : (a b : ℕ) → a ≤ b → (a ≡ b → ⊥) → a < b
-below a b l n = omega (arith, l, n)
 
 -- a tower takes in what has its keys held
 added_roomy : (net : Net) (book : ℕ → List Version) (t : ℕ) (T : Placement) → ((k : ℕ) → drafts_of k T.drafts ≤ 1) → ((k : ℕ) → Drafted T.drafts k → net.home k ≡ t → length (book k) ≡ net.depth → ⊥) → Roomy net book → Roomy net (added net book t T)
@@ -141,7 +139,7 @@ added_roomy net book t T tidy room g k = go (drafted? (homed net t T.drafts) k)
     go : Drafted (homed net t T.drafts) k ⊎ (Drafted (homed net t T.drafts) k → ⊥) → length (added net book t T k) ≤ net.depth
     go (inl d) =
         let x = homed-drafted net t T.drafts k d in
-        omega (arith, total, length-written T.tx T.origin T.number ls k, those_fewer (λ d. eqb d.key k) (λ d. eqb (net.home d.key) t) T.drafts, tidy k, below (length (book k)) net.depth (g k) (room k x.0 x.1))
+        omega (arith, total, length-written T.tx T.origin T.number ls k, filter_fewer (λ d. eqb d.key k) (λ d. eqb (net.home d.key) t) T.drafts, tidy k, g k, room k x.0 x.1)
     go (inr n) = omega (arith, total, ap length (written_none T.tx T.origin T.number ls k n), g k)
 
 -- ## The steps
@@ -152,7 +150,7 @@ no_outcome m e = elim m.body as (λ b. is_ballot b ≡ true → is_granted b ≡
   | answer k v ↦ λ _. refl
   | prepare ls ↦ λ _. refl
   | vote n ↦ λ _. refl
-  | granted n ls ↦ λ e. absurd (both_ways false refl e)
+  | granted n ls ↦ λ e. absurd (cc e)
   | refused ↦ λ _. refl
 ] e
 
@@ -207,7 +205,7 @@ closes-more net s i n g =
       owed = owed_sent net s.placed s.vis.clocks s.vis.air ms (each (λ x. is_granted x.body ≡ false) (λ t. refl)) g.owed;
     }
 
-grants-more : (net : Net) (s : State) (p : ℕ) (m : Message) (named : Option Objection) → Invariant net s → More net s → Ripe net s.vis p m → m.body ≡ vote named → (s.vis.records m.tx).awaited ≡ 1 → either (s.vis.records m.tx).named named ≡ None →
+grants-more : (net : Net) (s : State) (p : ℕ) (m : Message) (named : Option Objection) → Invariant net s → More net s → Ripe net s.vis p m → m.body ≡ vote named → (s.vis.records m.tx).awaited ≡ 1 → option_or (s.vis.records m.tx).named named ≡ None →
     (let o = (s.vis.records m.tx).origin in
     let r = granted_record s.vis m.tx in
     let T = placed_as m.tx r in
@@ -222,11 +220,11 @@ grants-more net s p m named v g ripe e one q =
     let T = placed_as i r in
     let b = v.votes.sound m (in_at s.vis.air p m a) (ap is_ballot e) in
     let ms = grants_to net T net.towers in
-    let all : (k : ℕ) → Drafted T.drafts k → Holds s.vis.held k T.tx = grants_holds net s p m named v a e one (either-none old.named named q) in (
+    let all : (k : ℕ) → Drafted T.drafts k → Holds s.vis.held k T.tx = grants_holds net s p m named v a e one (option_or_parts old.named named q) in (
       ready_put s.vis.records i r g.ready (λ c. absurd (differ Granted Closing refl refl c)),
       tidy_put s.vis.records i r g.tidy (g.tidy i),
       added_roomy net s.vis.book o T (g.tidy i) (λ k d _. v.holders.room k i (all k d)) g.roomy,
-      growing_sent (put s.vis.records i r) (without s.vis.air p) ms (growing_dumb (put s.vis.records i r) ms (each_grant net T net.towers Dumb (λ t k w x. both_ways false refl (sym (ap is_granted x)))))
+      growing_sent (put s.vis.records i r) (without s.vis.air p) ms (growing_dumb (put s.vis.records i r) ms (each_grant net T net.towers Dumb (λ t k w x. cc x)))
           (growing_put s.vis.records i r (without s.vis.air p) refl (growing_landed s.vis.records s.vis.air p g.growing)),
       grants_owed net s.placed s.vis.clocks (without s.vis.air p) T (ap suc (v.clocks.own o)) refl v.order.numbered v.clocks.behind
           (λ E l. placed-other s.placed s.vis.records E i v.granteds l (differ Closing Granted refl b.closing))
@@ -274,23 +272,23 @@ less zero l = absurd (omega arith)
 less (suc n) l = omega arith
 
 rule_more : (net : Net) {s : State} {v' : Visible} {c : Call} {a : Told} → Invariant net s → More net s → (x : Rule net s.vis v' c a) → More net (next net s x)
-rule_more net {s} v g (begins t l _ e) = subst (λ (w : Visible). More net (on s w)) (sym e) (begins-more net s t v g)
-rule_more net {s} v g (reads_own i k d o h e) = subst (λ (w : Visible). More net (on s w)) (sym e) g
-rule_more net {s} v g (asks i k o _ n e) = subst (λ (w : Visible). More net (on s w)) (sym e) (
+rule_more net {s} v g (begins t l _ e) = begins-more net s t v g
+rule_more net {s} v g (reads_own i k d o h e) = g
+rule_more net {s} v g (asks i k o _ n e) =
     let r = in_phase Waiting (s.vis.records i) in
     let q = message i (s.vis.records i).origin (net.home k) (s.vis.records i).bound (query k (not (s.vis.records i).answered)) in
     record {
       ready = ready_put s.vis.records i r g.ready (λ c. absurd (differ Waiting Closing refl refl c));
       tidy = tidy_put s.vis.records i r g.tidy (g.tidy i);
       roomy = g.roomy;
-      growing = growing_sent (put s.vis.records i r) s.vis.air (q ∷ []) (growing_dumb (put s.vis.records i r) (q ∷ []) (only Dumb q (λ j w b. let z : ◌≡◌ {A = ℕ} 0 1 = cc b in omega (arith, z)))) (growing_put s.vis.records i r s.vis.air refl g.growing);
+      growing = growing_sent (put s.vis.records i r) s.vis.air (q ∷ []) (growing_dumb (put s.vis.records i r) (q ∷ []) (only Dumb q (λ j w b. cc b))) (growing_put s.vis.records i r s.vis.air refl g.growing);
       owed = owed_sent net s.placed s.vis.clocks s.vis.air (q ∷ []) (only (λ x. is_granted x.body ≡ false) q refl) g.owed;
-    })
-rule_more net {s} v g (drafts i k w o _ _ e) = subst (λ (w : Visible). More net (on s w)) (sym e) (amend_more net s i (drafting (redrafted k w (s.vis.records i).drafts) (s.vis.records i)) g (λ c. absurd (differ Open Closing refl o c)) (λ j. redraft_tidy k w j (s.vis.records i).drafts (g.tidy i)) refl)
-rule_more net {s} v g (drops i o e) = subst (λ (w : Visible). More net (on s w)) (sym e) (amend_more net s i (in_phase Dropped (s.vis.records i)) g (λ c. absurd (differ Dropped Closing refl refl c)) (g.tidy i) refl)
-rule_more net {s} v g (closes_empty i o n e) = subst (λ (w : Visible). More net (on s w)) (sym e) (amend_more net s i (voting Granted 0 None (s.vis.records i)) g (λ c. absurd (differ Granted Closing refl refl c)) (g.tidy i) refl)
-rule_more net {s} v g (closes i o n e) = subst (λ (w : Visible). More net (on s w)) (sym e) (closes-more net s i n g)
-rule_more net {s} v g (replies p m k first r b e) = subst (λ (w : Visible). More net (on s w)) (sym e) (
+    }
+rule_more net {s} v g (drafts i k w o _ _ e) = amend_more net s i (drafting (redrafted k w (s.vis.records i).drafts) (s.vis.records i)) g (λ c. absurd (differ Open Closing refl o c)) (λ j. redraft_tidy k w j (s.vis.records i).drafts (g.tidy i)) refl
+rule_more net {s} v g (drops i o e) = amend_more net s i (in_phase Dropped (s.vis.records i)) g (λ c. absurd (differ Dropped Closing refl refl c)) (g.tidy i) refl
+rule_more net {s} v g (closes_empty i o n e) = amend_more net s i (voting Granted 0 None (s.vis.records i)) g (λ c. absurd (differ Granted Closing refl refl c)) (g.tidy i) refl
+rule_more net {s} v g (closes i o n e) = closes-more net s i n g
+rule_more net {s} v g (replies p m k first r b e) =
     let c : Clock = cond first (s.vis.clocks m.to) m.bound in
     let q = message m.tx m.to m.from c (answer k (newest_within c (s.vis.book k))) in
     record {
@@ -299,8 +297,8 @@ rule_more net {s} v g (replies p m k first r b e) = subst (λ (w : Visible). Mor
       roomy = g.roomy;
       growing = growing_sent s.vis.records (without s.vis.air p) (q ∷ []) (λ x j w h y. only (λ x. (s.vis.records x.tx).bound ⊑ x.bound) q (reply_growing net s p m k first v r b) x h) (growing_landed s.vis.records s.vis.air p g.growing);
       owed = swap_owed net s.placed s.vis.clocks s.vis.air p m (q ∷ []) r.there (ap is_granted b) (only (λ x. is_granted x.body ≡ false) q refl) g.owed;
-    })
-rule_more net {s} v g (receives p m k shown a b e) = subst (λ (w : Visible). More net (noting s (record { tx = m.tx; key = k; shown = shown }) w)) (sym e) (
+    }
+rule_more net {s} v g (receives p m k shown a b e) =
     let r = reading_at m.bound (s.vis.records m.tx) in
     record {
       ready = ready_put s.vis.records m.tx r g.ready (λ c. absurd (differ Open Closing refl refl c));
@@ -308,8 +306,8 @@ rule_more net {s} v g (receives p m k shown a b e) = subst (λ (w : Visible). Mo
       roomy = g.roomy;
       growing = receives_growing net s p m k shown v a b g.growing;
       owed = owed_landed net s.placed s.vis.clocks s.vis.air p m a (ap is_granted b) g.owed;
-    })
-rule_more net {s} v g (agrees p m lines r b n e) = subst (λ (w : Visible). More net (on s w)) (sym e) (
+    }
+rule_more net {s} v g (agrees p m lines r b n e) =
     let q = message m.tx m.to m.from m.bound (vote None) in
     record {
       ready = g.ready;
@@ -317,8 +315,8 @@ rule_more net {s} v g (agrees p m lines r b n e) = subst (λ (w : Visible). More
       roomy = g.roomy;
       growing = swap_growing s.vis.records s.vis.air p (q ∷ []) (only Dumb q (ballot_dumb q refl)) g.growing;
       owed = swap_owed net s.placed s.vis.clocks s.vis.air p m (q ∷ []) r.there (ap is_granted b) (only (λ x. is_granted x.body ≡ false) q refl) g.owed;
-    })
-rule_more net {s} v g (objects p m lines k r b y e) = subst (λ (w : Visible). More net (on s w)) (sym e) (
+    }
+rule_more net {s} v g (objects p m lines k r b y e) =
     let q = message m.tx m.to m.from m.bound (vote (Some k)) in
     record {
       ready = g.ready;
@@ -326,19 +324,19 @@ rule_more net {s} v g (objects p m lines k r b y e) = subst (λ (w : Visible). M
       roomy = g.roomy;
       growing = swap_growing s.vis.records s.vis.air p (q ∷ []) (only Dumb q (ballot_dumb q refl)) g.growing;
       owed = swap_owed net s.placed s.vis.clocks s.vis.air p m (q ∷ []) r.there (ap is_granted b) (only (λ x. is_granted x.body ≡ false) q refl) g.owed;
-    })
-rule_more net {s} v g (counts p m named r b l e) = subst (λ (w : Visible). More net (on s w)) (sym e) (
+    }
+rule_more net {s} v g (counts p m named r b l e) =
     let i = m.tx in
-    let x = voting Closing (pred (s.vis.records i).awaited) (either (s.vis.records i).named named) (s.vis.records i) in
+    let x = voting Closing (pred (s.vis.records i).awaited) (option_or (s.vis.records i).named named) (s.vis.records i) in
     record {
       ready = ready_put s.vis.records i x g.ready (λ _. less (s.vis.records i).awaited l);
       tidy = tidy_put s.vis.records i x g.tidy (g.tidy i);
       roomy = g.roomy;
       growing = growing_put s.vis.records i x (without s.vis.air p) refl (growing_landed s.vis.records s.vis.air p g.growing);
       owed = owed_landed net s.placed s.vis.clocks s.vis.air p m r.there (ap is_granted b) g.owed;
-    })
-rule_more net {s} v g (grants p m named r b l q e) = subst (λ (w : Visible). More net (placing s (placement s.vis m.tx) w)) (sym e) (let x = grants-more net s p m named v g r b l q in record { ready = x.0; tidy = x.1; roomy = x.2; growing = x.3; owed = x.4 })
-rule_more net {s} v g (refuses p m named k r b l q e) = subst (λ (w : Visible). More net (on s w)) (sym e) (
+    }
+rule_more net {s} v g (grants p m named r b l q e) = let x = grants-more net s p m named v g r b l q in record { ready = x.0; tidy = x.1; roomy = x.2; growing = x.3; owed = x.4 }
+rule_more net {s} v g (refuses p m named k r b l q e) =
     let i = m.tx in
     let x = voting Refused 0 (Some k) (s.vis.records i) in
     let ms = refusals_to net i (s.vis.records i) net.towers in
@@ -347,20 +345,20 @@ rule_more net {s} v g (refuses p m named k r b l q e) = subst (λ (w : Visible).
       ready = ready_put s.vis.records i x g.ready (λ c. absurd (differ Refused Closing refl refl c));
       tidy = tidy_put s.vis.records i x g.tidy (g.tidy i);
       roomy = g.roomy;
-      growing = growing_sent (put s.vis.records i x) (without s.vis.air p) ms (growing_dumb (put s.vis.records i x) ms (each Dumb (λ t j w b. let z : ◌≡◌ {A = ℕ} 0 1 = cc b in omega (arith, z))))
+      growing = growing_sent (put s.vis.records i x) (without s.vis.air p) ms (growing_dumb (put s.vis.records i x) ms (each Dumb (λ t j w b. cc b)))
           (growing_put s.vis.records i x (without s.vis.air p) refl (growing_landed s.vis.records s.vis.air p g.growing));
       owed = swap_owed net s.placed s.vis.clocks s.vis.air p m ms r.there (ap is_granted b) (each (λ x. is_granted x.body ≡ false) (λ t. refl)) g.owed;
-    })
-rule_more net {s} v g (takes_in p m n lines r b l e) = subst (λ (w : Visible). More net (on s w)) (sym e) (
+    }
+rule_more net {s} v g (takes_in p m n lines r b l e) =
     let x = takes_more net s p m n lines v g r b l in
-    record { ready = g.ready; tidy = g.tidy; roomy = x.0; growing = growing_landed s.vis.records s.vis.air p g.growing; owed = x.1 })
-rule_more net {s} v g (releases p m a b e) = subst (λ (w : Visible). More net (on s w)) (sym e) (record {
+    record { ready = g.ready; tidy = g.tidy; roomy = x.0; growing = growing_landed s.vis.records s.vis.air p g.growing; owed = x.1 }
+rule_more net {s} v g (releases p m a b e) = record {
   ready = g.ready;
   tidy = g.tidy;
   roomy = g.roomy;
   growing = growing_landed s.vis.records s.vis.air p g.growing;
   owed = owed_landed net s.placed s.vis.clocks s.vis.air p m a (ap is_granted b) g.owed;
-})
+}
 
 pub run_more : (net : Net) {h : List Event} {s : State} → Logged net h s → More net s
 run_more net start = record {
@@ -370,4 +368,4 @@ run_more net start = record {
   growing = λ m k v h. absurd h;
   owed = record { lone = λ i t. omega arith; unseen = λ E t h. absurd h; balance = λ t o l. refl };
 }
-run_more net (then {s = s} r x) = by_step net (More net) s (run_more net r) (rule_more net (run_holds net r) (run_more net r)) x
+run_more net (then {s = s} r x) = by_step net (More net) s (run_more net r) (λ _. rule_more net (run_holds net r) (run_more net r)) x

@@ -1,5 +1,6 @@
 -- The tower that a holder is said to be of is the holder's origin. Assumes nothing.
 use Rattle.std.proofs.Common.{◌≡◌, ℕ, suc, pred, ◌<◌, false, not, ◌&&◌, eqb, List, [], ◌∷◌, ◌++◌, length, Some, None, Option, sym, refl, ap, ◌∙◌, subst, inl, inr, arith}
+use Rattle.std.specs.Option.{option_or}
 use Rattle.std.proofs.lemmas.Bool.{cases_lt, both_ways}
 use Rattle.messages.specs.declared.Draft.{Draft}
 use Rattle.messages.specs.declared.Objection.{Objection}
@@ -8,19 +9,17 @@ use Rattle.tables.specs.declared.Held.{Held}
 use Rattle.tables.specs.declared.Call.{Call}
 use Rattle.tables.specs.declared.Told.{Told}
 use Rattle.tables.specs.declared.Phase.TheVariants.{Waiting, Closing, Granted, Refused, Dropped}
-use Rattle.laws.specs.Lists.{put, In, without, either}
+use Rattle.laws.specs.Lists.{put, In, without}
 use Rattle.laws.specs.Net.{Clock, Record, query, prepare, vote, Message, Net, is_ballot}
 use Rattle.laws.specs.Words.{opened, in_phase, drafting, reading_at, voting, message, redrafted, holds_of, freed, prepares, grants_to, refusals_to}
 use Rattle.laws.specs.State.{Visible, granted_record, placement}
 use Rattle.laws.specs.Rules.{Rule, begins, reads_own, asks, drafts, drops, closes_empty, closes, replies, receives, agrees, objects, counts, grants, refuses, takes_in, releases}
-use Rattle.laws.proofs.Model.{State, on, noting, placing, next}
-use Rattle.laws.proofs.Lists.{put_keeps, put_other, put_case, in_at, in_append, in_without, in_those}
-use Rattle.laws.proofs.Conflicts.{none-some, either_cases, Evidence, opposed}
+use Rattle.laws.proofs.Model.{State, next}
+use Rattle.laws.proofs.Lists.{put_keeps, put_other, put_case, in_at, in_append, in_without, in_filter}
+use Rattle.laws.proofs.Sent.{each-prepare, each_grant, each-refusal}
+use Rattle.laws.proofs.Conflicts.{option_or_cases, Evidence, opposed}
 use Rattle.laws.proofs.Invariant.{Invariant}
 use Rattle.laws.proofs.Frames.{differ, only}
-use Rattle.laws.proofs.Calls.{no_vote, each-prepare}
-use Rattle.laws.proofs.Voting.{each-refusal}
-use Rattle.laws.proofs.Granting.{each_grant}
 
 -- w has begun, at o
 abbrev pub Of : ℕ → (ℕ → Record) → ℕ → ℕ → Type 0
@@ -60,7 +59,7 @@ module _ (n : ℕ) (rs : ℕ → Record) (hs : List Held) (air : List Message) w
   o_held gs f g = record { held = f; voted = g.voted; named = g.named }
 
   o_freed : (net : Net) (i t : ℕ) → Origins n rs hs air → Origins n rs (freed net i t hs) air
-  o_freed net i t g = o_held (freed net i t hs) (λ h q. g.held h (in_those (λ h. not (eqb h.tx i && eqb (net.home h.key) t)) hs h q).0) g
+  o_freed net i t g = o_held (freed net i t hs) (λ h q. g.held h (in_filter (λ h. not (eqb h.tx i && eqb (net.home h.key) t)) hs h q).0) g
 
   o_begun : (t : ℕ) (c : Clock) → Origins n rs hs air → Origins (suc n) (put rs n (opened t c)) hs air
   o_begun t c g =
@@ -68,7 +67,7 @@ module _ (n : ℕ) (rs : ℕ → Record) (hs : List Held) (air : List Message) w
       record {
         held = λ h q. of h.origin h.tx (g.held h q);
         voted = λ m a q b o w c. of o w (g.voted m a q b o w c);
-        named = λ j a q o w e. of o w (put_case (λ j x. x.named ≡ Some a → Sound n rs a) rs n (opened t c) (λ z. absurd (none-some refl z)) (λ j _. g.named j a) j q o w e);
+        named = λ j a q o w e. of o w (put_case (λ j x. x.named ≡ Some a → Sound n rs a) rs n (opened t c) (λ z. absurd (cc z)) (λ j _. g.named j a) j q o w e);
       }
 
 holds_origin : (i o : ℕ) (ds : List Draft) (h : Held) → In h (holds_of i o ds) → (h.tx ≡ i) × (h.origin ≡ o)
@@ -90,8 +89,8 @@ module _ (net : Net) (s : State) (v : Invariant net s) (g : OriginsOf s) where
   abbrev rs : ℕ → Record
   rs = s.vis.records
 
-  kept_named : (m : Message) (named : Option Objection) (a : Objection) → In m s.vis.air → m.body ≡ vote named → either (rs m.tx).named named ≡ Some a → Sound n rs a
-  kept_named m named a h e q = elim (either_cases (rs m.tx).named named a q) [
+  kept_named : (m : Message) (named : Option Objection) (a : Objection) → In m s.vis.air → m.body ≡ vote named → option_or (rs m.tx).named named ≡ Some a → Sound n rs a
+  kept_named m named a h e q = elim (option_or_cases (rs m.tx).named named a q) [
     | inl f ↦ g.named m.tx a f
     | inr f ↦ g.voted m a h (e ∙ ap vote f.1)
   ]
@@ -119,23 +118,22 @@ module _ (net : Net) (s : State) (v : Invariant net s) (g : OriginsOf s) where
   amend i r e f = o_put n rs s.vis.held s.vis.air i r e f g
 
   pub rule_origins : {v' : Visible} {c : Call} {a : Told} → (x : Rule net s.vis v' c a) → OriginsOf (next net s x)
-  rule_origins (begins t _ _ e) = subst (λ (w : Visible). OriginsOf (on s w)) (sym e) (o_begun n rs s.vis.held s.vis.air t (s.vis.clocks t) g)
-  rule_origins (reads_own i k d o q e) = subst (λ (w : Visible). OriginsOf (on s w)) (sym e) g
-  rule_origins (asks i k o _ q e) = subst (λ (w : Visible). OriginsOf (on s w)) (sym e) (
+  rule_origins (begins t _ _ e) = o_begun n rs s.vis.held s.vis.air t (s.vis.clocks t) g
+  rule_origins (reads_own i k d o q e) = g
+  rule_origins (asks i k o _ q e) =
       let r = in_phase Waiting (rs i) in
-      o_sent n (put rs i r) s.vis.held s.vis.air _ (silent n (put rs i r) (message i (rs i).origin (net.home k) (rs i).bound (query k (not (rs i).answered))) refl) (amend i r refl (g.named i)))
-  rule_origins (drafts i k x o _ _ e) = subst (λ (w : Visible). OriginsOf (on s w)) (sym e) (amend i (drafting (redrafted k x (rs i).drafts) (rs i)) refl (g.named i))
-  rule_origins (drops i o e) = subst (λ (w : Visible). OriginsOf (on s w)) (sym e) (amend i (in_phase Dropped (rs i)) refl (g.named i))
-  rule_origins (closes_empty i o q e) = subst (λ (w : Visible). OriginsOf (on s w)) (sym e) (amend i (voting Granted 0 None (rs i)) refl (λ a z. absurd (none-some refl z)))
-  rule_origins (closes i o q e) = subst (λ (w : Visible). OriginsOf (on s w)) (sym e) (
+      o_sent n (put rs i r) s.vis.held s.vis.air _ (silent n (put rs i r) (message i (rs i).origin (net.home k) (rs i).bound (query k (not (rs i).answered))) refl) (amend i r refl (g.named i))
+  rule_origins (drafts i k x o _ _ e) = amend i (drafting (redrafted k x (rs i).drafts) (rs i)) refl (g.named i)
+  rule_origins (drops i o e) = amend i (in_phase Dropped (rs i)) refl (g.named i)
+  rule_origins (closes_empty i o q e) = amend i (voting Granted 0 None (rs i)) refl (λ a z. absurd (cc z))
+  rule_origins (closes i o q e) =
       let r = voting Closing (length (prepares net i (rs i) net.towers)) None (rs i) in
       o_sent n (put rs i r) s.vis.held s.vis.air (prepares net i (rs i) net.towers)
-      (λ m a h b. absurd (each-prepare net i (rs i) net.towers (λ m. m.body ≡ vote (Some a) → ⊥) (λ t q. no_vote refl q) m h b))
-      (amend i r refl (λ a z. absurd (none-some refl z))))
-  rule_origins (replies p m k first r b e) = subst (λ (w : Visible). OriginsOf (on s w)) (sym e) (o_sent n rs s.vis.held (rest p) _ (silent n rs _ refl) (removed p))
-  rule_origins (receives p m k shown a b e) = subst (λ (w : Visible). OriginsOf (noting s (record { tx = m.tx; key = k; shown = shown }) w)) (sym e)
-      (o_put n rs s.vis.held (rest p) m.tx (reading_at m.bound (rs m.tx)) refl (g.named m.tx) (removed p))
-  rule_origins (agrees p m lines r b q e) = subst (λ (w : Visible). OriginsOf (on s w)) (sym e) (
+      (λ m a h b. absurd (each-prepare net i (rs i) net.towers (λ m. m.body ≡ vote (Some a) → ⊥) (λ t q. cc q) m h b))
+      (amend i r refl (λ a z. absurd (cc z)))
+  rule_origins (replies p m k first r b e) = o_sent n rs s.vis.held (rest p) _ (silent n rs _ refl) (removed p)
+  rule_origins (receives p m k shown a b e) = o_put n rs s.vis.held (rest p) m.tx (reading_at m.bound (rs m.tx)) refl (g.named m.tx) (removed p)
+  rule_origins (agrees p m lines r b q e) =
       let at = begun_at-origin m lines (in_at s.vis.air p m r.there) b in
       let y = message m.tx m.to m.from m.bound (vote None) in
       let tray : Tray n rs (s.vis.held ++ holds_of m.tx m.from lines) = λ h z. elim (in_append h s.vis.held _ z) [
@@ -143,26 +141,25 @@ module _ (net : Net) (s : State) (v : Invariant net s) (g : OriginsOf s) where
         | inr z ↦ (let w = holds_origin m.tx m.from lines h z in subst (λ (o : ℕ). Of n rs o h.tx) (sym w.1) (subst (Of n rs m.from) (sym w.0) at))
       ] in
       o_held n rs s.vis.held (rest p ++ y ∷ []) _ tray
-      (o_sent n rs s.vis.held (rest p) (y ∷ []) (λ x a h. only (λ x. x.body ≡ vote (Some a) → Sound n rs a) y (λ z. let w : ◌≡◌ {A = Option Objection} None (Some a) = cc z in absurd (none-some refl w)) x h) (removed p)))
-  rule_origins (objects p m lines k r b q e) = subst (λ (w : Visible). OriginsOf (on s w)) (sym e) (
+      (o_sent n rs s.vis.held (rest p) (y ∷ []) (λ x a h. only (λ x. x.body ≡ vote (Some a) → Sound n rs a) y (λ z. absurd (cc z)) x h) (removed p))
+  rule_origins (objects p m lines k r b q e) =
       let y = message m.tx m.to m.from m.bound (vote (Some k)) in
-      o_sent n rs s.vis.held (rest p) (y ∷ []) (λ x a h. only (λ x. x.body ≡ vote (Some a) → Sound n rs a) y (λ z. let w : k ≡ a = cc z in subst (Sound n rs) w (objected m k (opposed net s.vis m lines k q).1)) x h) (removed p))
-  rule_origins (counts p m named r b l e) = subst (λ (w : Visible). OriginsOf (on s w)) (sym e)
-      (o_put n rs s.vis.held (rest p) m.tx (voting Closing (pred (rs m.tx).awaited) (either (rs m.tx).named named) (rs m.tx)) refl (λ a. kept_named m named a (in_at s.vis.air p m r.there) b) (removed p))
-  rule_origins (grants p m named r b l q e) = subst (λ (w : Visible). OriginsOf (placing s (placement s.vis m.tx) w)) (sym e) (
+      o_sent n rs s.vis.held (rest p) (y ∷ []) (λ x a h. only (λ x. x.body ≡ vote (Some a) → Sound n rs a) y (λ z. let w : k ≡ a = cc z in subst (Sound n rs) w (objected m k (opposed net s.vis m lines k q).1)) x h) (removed p)
+  rule_origins (counts p m named r b l e) = o_put n rs s.vis.held (rest p) m.tx (voting Closing (pred (rs m.tx).awaited) (option_or (rs m.tx).named named) (rs m.tx)) refl (λ a. kept_named m named a (in_at s.vis.air p m r.there) b) (removed p)
+  rule_origins (grants p m named r b l q e) =
       let i = m.tx in
       let w = granted_record s.vis i in
       let ms = grants_to net (placement s.vis i) net.towers in
       o_sent n (put rs i w) (freed net i (rs i).origin s.vis.held) (rest p) ms
-      (λ x a h z. absurd (each_grant net (placement s.vis i) net.towers (λ x. x.body ≡ vote (Some a) → ⊥) (λ t z. both_ways false refl (ap is_ballot z)) x h z))
-      (o_freed n (put rs i w) s.vis.held (rest p) net i (rs i).origin (o_put n rs s.vis.held (rest p) i w refl (λ a z. absurd (none-some refl z)) (removed p))))
-  rule_origins (refuses p m named k r b l q e) = subst (λ (w : Visible). OriginsOf (on s w)) (sym e) (
+      (λ x a h z. absurd (each_grant net (placement s.vis i) net.towers (λ x. x.body ≡ vote (Some a) → ⊥) (λ t z. cc z) x h z))
+      (o_freed n (put rs i w) s.vis.held (rest p) net i (rs i).origin (o_put n rs s.vis.held (rest p) i w refl (λ a z. absurd (cc z)) (removed p)))
+  rule_origins (refuses p m named k r b l q e) =
       let i = m.tx in
       let w = voting Refused 0 (Some k) (rs i) in
       let ms = refusals_to net i (rs i) net.towers in
       o_sent n (put rs i w) (freed net i (rs i).origin s.vis.held) (rest p) ms
-      (λ x a h z. absurd (each-refusal net i (rs i) net.towers (λ x. x.body ≡ vote (Some a) → ⊥) (λ t z. both_ways false refl (ap is_ballot z)) x h z))
+      (λ x a h z. absurd (each-refusal net i (rs i) net.towers (λ x. x.body ≡ vote (Some a) → ⊥) (λ t z. cc z) x h z))
       (o_freed n (put rs i w) s.vis.held (rest p) net i (rs i).origin
-      (o_put n rs s.vis.held (rest p) i w refl (λ a z. let y : k ≡ a = cc z in subst (Sound n rs) y (kept_named m named k (in_at s.vis.air p m r.there) b q)) (removed p))))
-  rule_origins (takes_in p m k lines r b l e) = subst (λ (w : Visible). OriginsOf (on s w)) (sym e) (o_freed n rs s.vis.held (rest p) net m.tx m.to (removed p))
-  rule_origins (releases p m a b e) = subst (λ (w : Visible). OriginsOf (on s w)) (sym e) (o_freed n rs s.vis.held (rest p) net m.tx m.to (removed p))
+      (o_put n rs s.vis.held (rest p) i w refl (λ a z. let y : k ≡ a = cc z in subst (Sound n rs) y (kept_named m named k (in_at s.vis.air p m r.there) b q)) (removed p)))
+  rule_origins (takes_in p m k lines r b l e) = o_freed n rs s.vis.held (rest p) net m.tx m.to (removed p)
+  rule_origins (releases p m a b e) = o_freed n rs s.vis.held (rest p) net m.tx m.to (removed p)

@@ -1,5 +1,5 @@
 -- A granted outcome is in the air once, and only while its receiver lacks the transaction. Assumes nothing.
-use Rattle.std.proofs.Common.{◌≡◌, ℕ, zero, suc, ◌+◌, ◌<◌, ◌≤◌, Bool, true, false, cond, ◌&&◌, eqb, ◌≢◌, ◌⊎◌, List, [], ◌∷◌, ◌++◌, sym, refl, ap, ◌∙◌, subst, inl, inr, arith}
+use Rattle.std.proofs.Common.{◌≡◌, ℕ, suc, ◌+◌, ◌<◌, ◌≤◌, Bool, true, false, cond, ◌&&◌, eqb, ◌≢◌, ◌⊎◌, List, ◌∷◌, ◌++◌, sym, refl, ap, ◌∙◌, subst, inl, inr, arith}
 use Rattle.std.proofs.lemmas.Bool.{eq-eqb, ne_eqb, eqb-true, cases_eq, cases_Bool, both_ways, and_parts, and_from, and_left, and_right}
 use Rattle.messages.specs.declared.Draft.{Draft}
 use Rattle.laws.specs.Lists.{put, In, At, without, tally}
@@ -7,11 +7,12 @@ use Rattle.laws.specs.Net.{Clock, Body, query, answer, prepare, vote, granted, r
 use Rattle.laws.proofs.Log.{count, Seen}
 use Rattle.laws.specs.Words.{granted_to, grants_to}
 use Rattle.laws.proofs.Lists.{put_same, put_other, in_append, in_without, tally-append, tally_at, tally_in, tally-none, none_left}
+use Rattle.laws.proofs.Sent.{grants-most, each_away, each_grant}
 use Rattle.laws.proofs.Placed.{Numbered, new_unseen, seen_or_same}
 use Rattle.laws.proofs.Invariant.{Outcomes}
-use Rattle.laws.proofs.Frames.{only, same-tally}
+use Rattle.laws.proofs.Frames.{same-tally}
 use Rattle.laws.proofs.TakeIn.{passed, Next}
-use Rattle.laws.proofs.Granting.{each_grant, grants_has}
+use Rattle.laws.proofs.Granting.{grants_has}
 
 -- a granted outcome of the transaction, to that tower
 abbrev pub outcome_of : ℕ → ℕ → Message → Bool
@@ -86,44 +87,13 @@ module _ (net : Net) (P : List Placement) (cs : ℕ → Clock) (air : List Messa
 
 -- ## One more is placed
 
--- one outcome at most goes to each tower, and none to its own
-each_away : (net : Net) (T : Placement) (n : ℕ) (Q : Message → Type 0) → ((t : ℕ) → t ≢ T.origin → Q (granted_to net T t)) → (x : Message) → In x (grants_to net T n) → Q x
-each_away net T zero Q f x h = absurd h
-each_away net T (suc t) Q f x h = elim (in_append x (grants_to net T t) _ h) [
-  | inl g ↦ each_away net T t Q f x g
-  | inr g ↦ go (cases_eq t T.origin) g
-]
-  where
-    go : (t ≡ T.origin) ⊎ (t ≡ T.origin → ⊥) → In x (cond (eqb t T.origin) [] (granted_to net T t ∷ [])) → Q x
-    go (inl e) g = absurd (rw (eq-eqb t T.origin e) at g)
-    go (inr e) g = only Q (granted_to net T t) (f t e) x (rw (ne_eqb t T.origin e) at g)
-
-grants-most : (net : Net) (T : Placement) (q : Message → Bool) (t : ℕ) → ((u : ℕ) → u ≢ t → q (granted_to net T u) ≡ false) → (n : ℕ) → (n ≤ t → tally q (grants_to net T n) ≡ 0) × (tally q (grants_to net T n) ≤ 1)
-grants-most net T q t f zero = ((λ _. refl), omega arith)
-grants-most net T q t f (suc n) =
-    let ih = grants-most net T q t f n in
-    let more = tally-append q (grants_to net T n) (cond (eqb n T.origin) [] (granted_to net T n ∷ [])) in
-    ((λ l. omega (arith, more, ih.0 (omega arith), none (eqb n T.origin) (λ e. omega (arith, e, l)))), go more ih (cases_eq n t))
-  where
-    none : (b : Bool) → (n ≡ t → ⊥) → tally q (cond b [] (granted_to net T n ∷ [])) ≡ 0
-    none true d = refl
-    none false d = rw (f n d)
-
-    most : (b : Bool) → tally q (cond b [] (granted_to net T n ∷ [])) ≤ 1
-    most true = omega arith
-    most false = elim (q (granted_to net T n)) as (λ b. cond b 1 0 + 0 ≤ 1) [ true ↦ omega arith | false ↦ omega arith ]
-
-    go : tally q (grants_to net T (suc n)) ≡ tally q (grants_to net T n) + tally q (cond (eqb n T.origin) [] (granted_to net T n ∷ [])) → (n ≤ t → tally q (grants_to net T n) ≡ 0) × (tally q (grants_to net T n) ≤ 1) → (n ≡ t) ⊎ (n ≡ t → ⊥) → tally q (grants_to net T (suc n)) ≤ 1
-    go more ih (inl e) = omega (arith, more, ih.0 (omega arith), most (eqb n T.origin))
-    go more ih (inr d) = omega (arith, more, ih.1, none (eqb n T.origin) d)
-
 granted_is : (b : Body) → is_granted b ≡ true → (n : ℕ) × (ls : List Draft) × (b ≡ granted n ls)
-granted_is (query k f) e = absurd (both_ways false refl e)
-granted_is (answer k v) e = absurd (both_ways false refl e)
-granted_is (prepare ls) e = absurd (both_ways false refl e)
-granted_is (vote n) e = absurd (both_ways false refl e)
+granted_is (query k f) e = absurd (cc e)
+granted_is (answer k v) e = absurd (cc e)
+granted_is (prepare ls) e = absurd (cc e)
+granted_is (vote n) e = absurd (cc e)
 granted_is (granted n ls) e = (n, ls, refl)
-granted_is refused e = absurd (both_ways false refl e)
+granted_is refused e = absurd (cc e)
 
 module _ (net : Net) (P : List Placement) (cs : ℕ → Clock) (rest : List Message) (T : Placement) (n : T.number ≡ suc (count P T.origin)) (e : Next cs T.origin T) (m : Numbered P) (behind : (u : ℕ) → cs u ⊑ count P)
     (others : (E : Placement) → In E P → E.tx ≢ T.tx) (oc : Outcomes net P cs rest) (g : Owed net P cs rest) where
@@ -152,7 +122,7 @@ module _ (net : Net) (P : List Placement) (cs : ℕ → Clock) (rest : List Mess
       ]
 
       go : (T.tx ≡ i) ⊎ (T.tx ≡ i → ⊥) → tally (outcome_of i t) (rest ++ ms) ≤ 1
-      go (inl q) = omega (arith, tally-append (outcome_of i t) rest ms, tally-none (outcome_of i t) rest (quiet q), (grants-most net T (outcome_of i t) t away net.towers).1)
+      go (inl q) = omega (arith, tally-append (outcome_of i t) rest ms, tally-none (outcome_of i t) rest (quiet q), grants-most net T (outcome_of i t) t away net.towers)
       go (inr d) = omega (arith, tally-append (outcome_of i t) rest ms, g.lone i t, tally-none (outcome_of i t) ms (each_grant net T net.towers (λ x. outcome_of i t x ≡ false) (λ u. and_left (eqb T.tx i) _ (ne_eqb T.tx i d))))
 
   new-own : (u : ℕ) → In (granted_to net T u) (rest ++ ms) → Seen T (passed cs T.origin T u) → ⊥
@@ -201,7 +171,7 @@ module _ (net : Net) (P : List Placement) (cs : ℕ → Clock) (rest : List Mess
       go (inr x) (inl y) =
           let f : (u : ℕ) → u ≢ t → pending_of o t (granted_to net T u) ≡ false = λ u d. and_right (eqb T.origin o) _ (and_left (eqb u t) _ (ne_eqb u t d)) in
           let some : 1 ≤ tally (pending_of o t) ms = tally_in (pending_of o t) ms (granted_to net T t) (grants_has net T net.towers t l (λ q. x (sym q))) (and_from _ _ (eq-eqb T.origin o y) (and_from _ _ (eq-eqb t t refl) refl)) in
-          rw (put_other cs T.origin (put (cs T.origin) T.origin T.number) t x, eq-eqb T.origin o y) (omega (arith, both, was, some, (grants-most net T (pending_of o t) t f net.towers).1))
+          rw (put_other cs T.origin (put (cs T.origin) T.origin T.number) t x, eq-eqb T.origin o y) (omega (arith, both, was, some, grants-most net T (pending_of o t) t f net.towers))
 
   pub grants_owed : Owed net (T ∷ P) (passed cs T.origin T) (rest ++ ms)
   grants_owed = record {

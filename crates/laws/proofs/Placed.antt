@@ -1,9 +1,10 @@
 -- The placed transactions, the newest first, and what a clock has passed of them. Assumes nothing.
 use Rattle.std.proofs.Common.{◌≡◌, ℕ, suc, ◌<◌, ◌≤◌, Bool, true, false, cond, eqb, leb, ◌⊎◌, List, [], ◌∷◌, ◌++◌, Some, None, sym, refl, ap, ◌∙◌, subst, inl, inr, append-nil, arith}
+use Rattle.std.specs.Option.{option_or}
 use Rattle.std.proofs.lemmas.Bool.{eq-eqb, ne_eqb, cases_eq, cases_Bool, cond-false, le-leb, lt-leb, leb-true, leb-false}
 use Rattle.clocks.specs.declared.Version.{Version}
 use Rattle.messages.specs.declared.Draft.{Draft}
-use Rattle.laws.specs.Lists.{put, In, either}
+use Rattle.laws.specs.Lists.{put, In}
 use Rattle.laws.specs.Net.{Clock, Placement, ◌⊑◌, Drafted, written, inside, newest, newest_within}
 use Rattle.laws.proofs.Log.{wrote, versions, taken, count, Seen, seen}
 pub use Rattle.laws.proofs.Facts.{Numbered}
@@ -153,7 +154,7 @@ shown_of_book c d (T ∷ P) k l =
     last-append (inside c) (taken d P k) (cond (seen T d) (wrote T k) []) ∙ go (shown_of_book c d P k l) (cases_Bool (seen T d)) ∙ sym (last-append (inside c) (versions P k) (wrote T k))
   where
     go : newest_within c (taken d P k) ≡ newest_within c (versions P k) → (seen T d ≡ true) ⊎ (seen T d ≡ false) →
-        either (newest_within c (cond (seen T d) (wrote T k) [])) (newest_within c (taken d P k)) ≡ either (newest_within c (wrote T k)) (newest_within c (versions P k))
+        option_or (newest_within c (cond (seen T d) (wrote T k) [])) (newest_within c (taken d P k)) ≡ option_or (newest_within c (wrote T k)) (newest_within c (versions P k))
     go ih (inl e) = rw (e, ih)
     go ih (inr e) =
         let f : d T.origin < T.number = leb-false _ _ e in
@@ -235,7 +236,7 @@ newest-covers (T ∷ P) c b k o cl n E h d s = go (newest_cases c T k) h (newest
 
 -- who wrote the newest of a book
 pub newest_by : (P : List Placement) (c : Clock) (k : ℕ) (v : Version) → newest (taken c P k) ≡ Some v → (E : Placement) × In E P × Drafted E.drafts k × By E v
-newest_by [] c k v q = let z : ◌≡◌ {A = ℕ} 0 1 = cc in absurd (omega arith)
+newest_by [] c k v q = absurd cc
 newest_by (T ∷ P) c k v q = go (newest_cases c T k) (newest_by P c k v)
   where
     go : (Drafted T.drafts k × Seen T c) ⊎ (Drafted T.drafts k → Seen T c → ⊥) → (newest (taken c P k) ≡ Some v → (E : Placement) × In E P × Drafted E.drafts k × By E v) → (E : Placement) × In E (T ∷ P) × Drafted E.drafts k × By E v

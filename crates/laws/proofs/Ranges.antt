@@ -1,18 +1,18 @@
 -- Every tower that a record or a message names is a tower of the net, and every message is of a transaction that has begun.
 -- A second invariant, beside the first. Assumes nothing.
-use Rattle.std.proofs.Common.{◌≡◌, ℕ, zero, suc, ◌<◌, ◌≤◌, Bool, true, false, cond, eqb, ◌≢◌, List, [], ◌∷◌, ◌++◌, length, None, sym, refl, ap, ◌∙◌, subst, inl, inr, arith}
+use Rattle.std.proofs.Common.{◌≡◌, ℕ, ◌<◌, ◌≤◌, ◌≢◌, List, [], ◌∷◌, ◌++◌, length, None, sym, refl, ap, ◌∙◌, subst, inl, inr, arith}
 use Rattle.std.proofs.lemmas.Bool.{cases_lt}
 use Rattle.tables.specs.declared.Call.{Call}
 use Rattle.tables.specs.declared.Told.{Told}
-use Rattle.messages.specs.declared.Draft.{Draft}
 use Rattle.tables.specs.declared.Phase.TheVariants.{Waiting, Closing, Granted, Refused, Dropped}
 use Rattle.laws.specs.Lists.{put, In, without}
 use Rattle.laws.specs.Net.{Record, Body, query, answer, prepare, vote, granted, refused, Message, Placement, Net}
-use Rattle.laws.proofs.Model.{Logged, State, by_step, next, noting, on, placing, start, then}
+use Rattle.laws.proofs.Model.{Logged, State, by_step, next, start, then}
 use Rattle.laws.specs.Rules.{Rule, agrees, asks, begins, closes, closes_empty, counts, drafts, drops, grants, receives, releases, reads_own, objects, refuses, replies, takes_in}
-use Rattle.laws.specs.State.{placement, Visible}
-use Rattle.laws.specs.Words.{in_phase, drafting, reading_at, voting, redrafted, unless_none, homed, prepare_to, granted_to, refused_to, prepares, grants_to, refusals_to, Event}
-use Rattle.laws.proofs.Lists.{put_all, in_at, in_append, in_without}
+use Rattle.laws.specs.State.{Visible}
+use Rattle.laws.specs.Words.{in_phase, drafting, reading_at, voting, redrafted, prepares, grants_to, refusals_to, Event}
+use Rattle.laws.proofs.Lists.{put_all, in_at, each_append, each_without}
+use Rattle.laws.proofs.Sent.{in_grants, in_prepares, in_refusals}
 use Rattle.laws.proofs.Frames.{only, differ}
 use Rattle.laws.proofs.Invariant.{Invariant, is_read, is_ballot}
 
@@ -34,81 +34,61 @@ pub record Ranges (net : Net) (s : State) : Type 0 where
 origins_put : (net : Net) (rs : ℕ → Record) (i : ℕ) (r : Record) → Origins net rs → r.origin < net.towers → Origins net (put rs i r)
 origins_put net rs i r g l = put_all (λ x. x.origin < net.towers) rs i r l g
 
-mail_sent : (net : Net) (air ms : List Message) → Mail net air → Mail net ms → Mail net (air ++ ms)
-mail_sent net air ms g f m h = elim (in_append m air ms h) [ inl h ↦ g m h | inr h ↦ f m h ]
-
-mail_landed : (net : Net) (air : List Message) (p : ℕ) → Mail net air → Mail net (without air p)
-mail_landed net air p g m h = g m (in_without air p m h)
-
-mail_maybe : (net : Net) (ds : List Draft) (m : Message) → Posted net m → Mail net (unless_none ds m)
-mail_maybe net [] m g x h = absurd h
-mail_maybe net (d ∷ ds) m g x h = only (Posted net) m g x h
-
-mail_unless : (net : Net) (b : Bool) (ms : List Message) → Mail net ms → Mail net (cond b [] ms)
-mail_unless net true ms g x h = absurd h
-mail_unless net false ms g x h = g x h
-
 mail_prepares : (net : Net) (i : ℕ) (r : Record) (n : ℕ) → r.origin < net.towers → n ≤ net.towers → Mail net (prepares net i r n)
-mail_prepares net i r zero o l = λ x h. absurd h
-mail_prepares net i r (suc t) o l = mail_sent net (prepares net i r t) (unless_none (homed net t r.drafts) (prepare_to net i r t)) (mail_prepares net i r t o (omega arith))
-    (mail_maybe net (homed net t r.drafts) (prepare_to net i r t) (omega arith, o))
+mail_prepares net i r n o l x h = let p = in_prepares net i r n x h in subst (Posted net) (sym p.3) (omega (arith, p.1, l), o)
 
 mail_grants : (net : Net) (T : Placement) (n : ℕ) → T.origin < net.towers → n ≤ net.towers → Mail net (grants_to net T n)
-mail_grants net T zero o l = λ x h. absurd h
-mail_grants net T (suc t) o l = mail_sent net (grants_to net T t) (cond (eqb t T.origin) [] (granted_to net T t ∷ [])) (mail_grants net T t o (omega arith))
-    (mail_unless net (eqb t T.origin) (granted_to net T t ∷ []) (only (Posted net) (granted_to net T t) (omega arith, o)))
+mail_grants net T n o l x h = let p = in_grants net T n x h in subst (Posted net) (sym p.3) (omega (arith, p.1, l), o)
 
 mail_refusals : (net : Net) (i : ℕ) (r : Record) (n : ℕ) → r.origin < net.towers → n ≤ net.towers → Mail net (refusals_to net i r n)
-mail_refusals net i r zero o l = λ x h. absurd h
-mail_refusals net i r (suc t) o l = mail_sent net (refusals_to net i r t) (cond (eqb t r.origin) [] (unless_none (homed net t r.drafts) (refused_to net i r t))) (mail_refusals net i r t o (omega arith))
-    (mail_unless net (eqb t r.origin) (unless_none (homed net t r.drafts) (refused_to net i r t)) (mail_maybe net (homed net t r.drafts) (refused_to net i r t) (omega arith, o)))
+mail_refusals net i r n o l x h = let p = in_refusals net i r n x h in subst (Posted net) (sym p.2) (omega (arith, p.1, l), o)
 
 -- ## The steps
 
 -- a message that lands is answered by one that goes back
 answered_by : (net : Net) (s : State) (p : ℕ) (m q : Message) → Ranges net s → In m s.vis.air → q.to ≡ m.from → q.from ≡ m.to → Mail net (without s.vis.air p ++ q ∷ [])
 answered_by net s p m q g h t f =
-    mail_sent net (without s.vis.air p) (q ∷ []) (mail_landed net s.vis.air p g.mail) (only (Posted net) q (rw t (g.mail m h).1, rw f (g.mail m h).0))
+    each_append (Posted net) (without s.vis.air p) (q ∷ []) (each_without (Posted net) s.vis.air p g.mail) (only (Posted net) q (rw t (g.mail m h).1, rw f (g.mail m h).0))
 
 rule_ranges : (net : Net) {s : State} {v' : Visible} {c : Call} {a : Told} → Ranges net s → (x : Rule net s.vis v' c a) → Ranges net (next net s x)
-rule_ranges net {s} g (begins t l _ e) = subst (λ (w : Visible). Ranges net (on s w)) (sym e) (record { origins = origins_put net s.vis.records s.vis.begun _ g.origins l; mail = g.mail })
-rule_ranges net {s} g (reads_own i k d o h e) = subst (λ (w : Visible). Ranges net (on s w)) (sym e) g
-rule_ranges net {s} g (asks i k o _ n e) = subst (λ (w : Visible). Ranges net (on s w)) (sym e) (record {
+rule_ranges net {s} g (begins t l _ e) = record { origins = origins_put net s.vis.records s.vis.begun _ g.origins l; mail = g.mail }
+rule_ranges net {s} g (reads_own i k d o h e) = g
+rule_ranges net {s} g (asks i k o _ n e) = record {
   origins = origins_put net s.vis.records i (in_phase Waiting (s.vis.records i)) g.origins (g.origins i);
-  mail = mail_sent net s.vis.air _ g.mail (only (Posted net) _ (net.housed k, g.origins i));
-})
-rule_ranges net {s} g (drafts i k w o _ _ e) = subst (λ (w : Visible). Ranges net (on s w)) (sym e) (record { origins = origins_put net s.vis.records i (drafting (redrafted k w (s.vis.records i).drafts) (s.vis.records i)) g.origins (g.origins i); mail = g.mail })
-rule_ranges net {s} g (drops i o e) = subst (λ (w : Visible). Ranges net (on s w)) (sym e) (record { origins = origins_put net s.vis.records i (in_phase Dropped (s.vis.records i)) g.origins (g.origins i); mail = g.mail })
-rule_ranges net {s} g (closes_empty i o n e) = subst (λ (w : Visible). Ranges net (on s w)) (sym e) (record { origins = origins_put net s.vis.records i (voting Granted 0 None (s.vis.records i)) g.origins (g.origins i); mail = g.mail })
-rule_ranges net {s} g (closes i o n e) = subst (λ (w : Visible). Ranges net (on s w)) (sym e) (record {
+  mail = each_append (Posted net) s.vis.air _ g.mail (only (Posted net) _ (net.housed k, g.origins i));
+}
+rule_ranges net {s} g (drafts i k w o _ _ e) = record { origins = origins_put net s.vis.records i (drafting (redrafted k w (s.vis.records i).drafts) (s.vis.records i)) g.origins (g.origins i); mail = g.mail }
+rule_ranges net {s} g (drops i o e) = record { origins = origins_put net s.vis.records i (in_phase Dropped (s.vis.records i)) g.origins (g.origins i); mail = g.mail }
+rule_ranges net {s} g (closes_empty i o n e) = record { origins = origins_put net s.vis.records i (voting Granted 0 None (s.vis.records i)) g.origins (g.origins i); mail = g.mail }
+rule_ranges net {s} g (closes i o n e) = record {
   origins = origins_put net s.vis.records i (voting Closing (length (prepares net i (s.vis.records i) net.towers)) None (s.vis.records i)) g.origins (g.origins i);
-  mail = mail_sent net s.vis.air _ g.mail (mail_prepares net i (s.vis.records i) net.towers (g.origins i) (omega arith));
-})
-rule_ranges net {s} g (replies p m k first r b e) = subst (λ (w : Visible). Ranges net (on s w)) (sym e) (record { origins = g.origins; mail = answered_by net s p m _ g (in_at s.vis.air p m r.there) refl refl })
-rule_ranges net {s} g (receives p m k shown a b e) = subst (λ (w : Visible). Ranges net (noting s (record { tx = m.tx; key = k; shown = shown }) w)) (sym e) (record {
+  mail = each_append (Posted net) s.vis.air _ g.mail (mail_prepares net i (s.vis.records i) net.towers (g.origins i) (omega arith));
+}
+rule_ranges net {s} g (replies p m k first r b e) = record { origins = g.origins; mail = answered_by net s p m _ g (in_at s.vis.air p m r.there) refl refl }
+rule_ranges net {s} g (receives p m k shown a b e) = record {
   origins = origins_put net s.vis.records m.tx (reading_at m.bound (s.vis.records m.tx)) g.origins (g.origins m.tx);
-  mail = mail_landed net s.vis.air p g.mail;
-})
-rule_ranges net {s} g (agrees p m lines r b n e) = subst (λ (w : Visible). Ranges net (on s w)) (sym e) (record { origins = g.origins; mail = answered_by net s p m _ g (in_at s.vis.air p m r.there) refl refl })
-rule_ranges net {s} g (objects p m lines k r b y e) = subst (λ (w : Visible). Ranges net (on s w)) (sym e) (record { origins = g.origins; mail = answered_by net s p m _ g (in_at s.vis.air p m r.there) refl refl })
-rule_ranges net {s} g (counts p m named r b l e) = subst (λ (w : Visible). Ranges net (on s w)) (sym e) (record {
+  mail = each_without (Posted net) s.vis.air p g.mail;
+}
+rule_ranges net {s} g (agrees p m lines r b n e) = record { origins = g.origins; mail = answered_by net s p m _ g (in_at s.vis.air p m r.there) refl refl }
+rule_ranges net {s} g (objects p m lines k r b y e) = record { origins = g.origins; mail = answered_by net s p m _ g (in_at s.vis.air p m r.there) refl refl }
+rule_ranges net {s} g (counts p m named r b l e) = record {
   origins = origins_put net s.vis.records m.tx _ g.origins (g.origins m.tx);
-  mail = mail_landed net s.vis.air p g.mail;
-})
-rule_ranges net {s} g (grants p m named r b l q e) = subst (λ (w : Visible). Ranges net (placing s (placement s.vis m.tx) w)) (sym e) (record {
+  mail = each_without (Posted net) s.vis.air p g.mail;
+}
+rule_ranges net {s} g (grants p m named r b l q e) = record {
   origins = origins_put net s.vis.records m.tx _ g.origins (g.origins m.tx);
-  mail = mail_sent net (without s.vis.air p) _ (mail_landed net s.vis.air p g.mail) (mail_grants net _ net.towers (g.origins m.tx) (omega arith));
-})
-rule_ranges net {s} g (refuses p m named k r b l q e) = subst (λ (w : Visible). Ranges net (on s w)) (sym e) (record {
+  mail = each_append (Posted net) (without s.vis.air p) _ (each_without (Posted net) s.vis.air p g.mail) (mail_grants net _ net.towers (g.origins m.tx) (omega arith));
+}
+rule_ranges net {s} g (refuses p m named k r b l q e) = record {
   origins = origins_put net s.vis.records m.tx _ g.origins (g.origins m.tx);
-  mail = mail_sent net (without s.vis.air p) _ (mail_landed net s.vis.air p g.mail) (mail_refusals net m.tx (s.vis.records m.tx) net.towers (g.origins m.tx) (omega arith));
-})
-rule_ranges net {s} g (takes_in p m n lines r b l e) = subst (λ (w : Visible). Ranges net (on s w)) (sym e) (record { origins = g.origins; mail = mail_landed net s.vis.air p g.mail })
-rule_ranges net {s} g (releases p m a b e) = subst (λ (w : Visible). Ranges net (on s w)) (sym e) (record { origins = g.origins; mail = mail_landed net s.vis.air p g.mail })
+  mail = each_append (Posted net) (without s.vis.air p) _ (each_without (Posted net) s.vis.air p g.mail) (mail_refusals net m.tx (s.vis.records m.tx) net.towers (g.origins m.tx) (omega arith));
+}
+rule_ranges net {s} g (takes_in p m n lines r b l e) = record { origins = g.origins; mail = each_without (Posted net) s.vis.air p g.mail }
+rule_ranges net {s} g (releases p m a b e) = record { origins = g.origins; mail = each_without (Posted net) s.vis.air p g.mail }
 
 pub run_ranges : (net : Net) {h : List Event} {s : State} → Logged net h s → Ranges net s
 run_ranges net start = record { origins = λ i. omega (arith, net.housed 0); mail = λ m h. absurd h }
-run_ranges net (then {s = s} r x) = by_step net (Ranges net) s (run_ranges net r) (rule_ranges net (run_ranges net r)) x
+run_ranges net (then {s = s} r x) = by_step net (Ranges net) s (run_ranges net r) (λ _. rule_ranges net (run_ranges net r)) x
 
 -- ## The transactions of messages
 

@@ -1,17 +1,17 @@
 -- A query, or an answer, that lands keeps the invariant. Assumes nothing.
 use Rattle.std.proofs.Common.{◌≡◌, ℕ, ◌≤◌, Bool, true, false, cond, not, ◌&&◌, eqb, ◌≢◌, List, [], ◌∷◌, Some, Option, sym, refl, ap, ◌∙◌, subst, inl, inr, arith}
-use Rattle.std.proofs.lemmas.Bool.{eq-eqb, cond-true, cond-false, both_ways, and_from}
+use Rattle.std.proofs.lemmas.Bool.{eq-eqb, cond-true, cond-false, and_from}
 use Rattle.clocks.specs.declared.Version.{Version}
 use Rattle.tables.specs.declared.Phase.TheVariants.{Open, Waiting, Closing, Granted, Refused, Dropped}
 use Rattle.laws.specs.Lists.{put, In, At, without}
-use Rattle.laws.specs.Net.{Clock, Record, Body, query, answer, vote, refused, Message, Net, ◌⊑◌, newest_within, has_closed}
+use Rattle.laws.specs.Net.{Clock, Record, query, answer, vote, refused, Message, Net, ◌⊑◌, newest_within, has_closed}
 use Rattle.laws.proofs.Log.{versions}
 use Rattle.laws.proofs.Model.{Answered, State, noting, on}
 use Rattle.laws.specs.Rules.{Ripe, received, replied}
 use Rattle.laws.specs.Words.{reading_at, message}
 use Rattle.laws.proofs.Lists.{put_same, put_other, put_case, in_at, tally_at, none_left}
 use Rattle.laws.proofs.Placed.{shown_of_book}
-use Rattle.laws.proofs.Invariant.{intents, is_read, is_ballot, is_granted, is_refused, reads, Fair, Justified, Invariant}
+use Rattle.laws.proofs.Invariant.{intents, is_read, is_ballot, is_granted, reads, Fair, Justified, Invariant}
 use Rattle.laws.proofs.Frames.{same-put, holders_same, granteds_put, bounds-put, unbegun_put, votes_put, refusals_put, votes_landed, votes_sent, reads_landed, outcomes_landed, outcomes_sent, refusals_landed, refusals_sent, differ, only, reads_more}
 
 -- nothing else of the read is in the air
@@ -24,9 +24,6 @@ reads_gone air p m a b l =
 other-read : (air : List Message) (p : ℕ) (m : Message) → At air p m → is_read m.body ≡ true → reads m.tx air ≤ 1 → (x : Message) → In x (without air p) → is_read x.body ≡ true → m.tx ≢ x.tx
 other-read air p m a b l x h c e =
     none_left (λ x. eqb x.tx m.tx && is_read x.body) air p m a (and_from _ _ (eq-eqb m.tx m.tx refl) b) l x h (and_from _ _ (eq-eqb _ _ (sym e)) c)
-
-no_query : {k : ℕ} {f : Bool} {b : Body} {k' : ℕ} {v : Option Version} → b ≡ answer k' v → b ≡ query k f → ⊥
-no_query p q = let z : ◌≡◌ {A = ℕ} 0 1 = cc in omega arith
 
 pub replies_keeps : (net : Net) (s : State) (p : ℕ) (m : Message) (k : ℕ) (first : Bool) → Invariant net s → Ripe net s.vis p m → m.body ≡ query k first → Invariant net (on s (replied net s.vis p m k first))
 replies_keeps net s p m k first v ripe e =
@@ -60,11 +57,11 @@ replies_keeps net s p m k first v ripe e =
       granteds = v.granteds;
       unbegun = v.unbegun;
       votes = votes_sent net rs s.vis.held rest (q ∷ []) (only (λ x. is_ballot x.body ≡ false) q refl)
-          (only (λ x. x.body ≡ refused → (rs x.tx).phase ≡ Refused) q (λ e. absurd (both_ways false refl (ap is_refused e))))
+          (only (λ x. x.body ≡ refused → (rs x.tx).phase ≡ Refused) q (λ e. absurd (cc e)))
           (votes_landed net rs s.vis.held s.vis.air p m a (ap is_ballot e) v.votes);
       reads = reads_more net P rs rest s.readings q (record {
         waiting = g.waiting m h rd;
-        asked = λ k' f b. absurd (no_query refl b);
+        asked = λ k' f b. absurd (cc b);
         fair = λ k' w b. fair;
         right = λ k' w b. let ek : k ≡ k' = cc in let ew : shown ≡ w = cc in sym ew ∙ right ∙ ap (λ (n : ℕ). newest_within c (versions P n)) ek;
         again = λ k' w b t.
@@ -76,7 +73,7 @@ replies_keeps net s p m k first v ripe e =
       outcomes = outcomes_sent net P s.vis.clocks rest (q ∷ []) (only (λ x. is_granted x.body ≡ false) q refl)
           (outcomes_landed net P s.vis.clocks s.vis.air p m a (ap is_granted e) v.outcomes);
       refusals = refusals_sent net P rs s.vis.book rest (q ∷ [])
-          (λ x j. only (λ x. x.body ≡ vote (Some j) → Justified net (intents rs) P s.vis.book x.tx j) q (λ e. absurd (both_ways false refl (ap is_ballot e))) x)
+          (λ x j. only (λ x. x.body ≡ vote (Some j) → Justified net (intents rs) P s.vis.book x.tx j) q (λ e. absurd (cc e)) x)
           (refusals_landed net P rs s.vis.book s.vis.air p v.refusals);
     }
 
@@ -125,6 +122,6 @@ receives_keeps net s p m k shown v a e =
         ];
       };
       outcomes = outcomes_landed net P s.vis.clocks s.vis.air p m a (ap is_granted e) v.outcomes;
-      refusals = refusals_put net P s.vis.records i r s.vis.book rest same (λ k t n. absurd (both_ways false refl t)) (λ q. absurd (differ Open Refused refl refl q))
+      refusals = refusals_put net P s.vis.records i r s.vis.book rest same (λ k t n. absurd (cc t)) (λ q. absurd (differ Open Refused refl refl q))
           (refusals_landed net P s.vis.records s.vis.book s.vis.air p v.refusals);
     }

@@ -1,5 +1,6 @@
 -- Runs of a net of two towers, computed. Assumes nothing.
-use Rattle.std.proofs.Common.{◌≡◌, ℕ, ◌%◌, List, [], ◌∷◌, map, reverse, Some, None, refl, arith}
+use Rattle.std.proofs.Common.{◌≡◌, ℕ, ◌%◌, List, [], ◌∷◌, map, reverse, Some, None, Ok, Err, Result, refl, arith}
+use Rattle.faults.specs.declared.Cause.{Cause}
 use Rattle.faults.specs.declared.Cause.TheVariants.{Tower, Unknown, Key, Phase as PhaseFault, Full, Air, Message as NoMessage, Early, List as ListFull}
 use Rattle.clocks.specs.declared.Content.{Content}
 use Rattle.clocks.specs.declared.Version.{Version}
@@ -7,7 +8,7 @@ use Rattle.messages.specs.declared.Conflict.TheVariants.{Held as HeldBy, Newer}
 use Rattle.tables.specs.declared.Call.{Call}
 use Rattle.tables.specs.declared.Call.TheVariants.{Begin, Read, Draft as DraftCall, Close, Drop as DropCall, Deliver}
 use Rattle.tables.specs.declared.Told.{Told}
-use Rattle.tables.specs.declared.Told.TheVariants.{Begun, Own, Sent, Drafts, ReadOnly, Queried, Shown, Prepared, Placed, Refused as ToldRefused, Ended, Fault}
+use Rattle.tables.specs.declared.Told.TheVariants.{Begun, Own, Sent, Drafts, ReadOnly, Queried, Shown, Prepared, Placed, Refused as ToldRefused, Ended}
 use Rattle.laws.specs.Lists.{put}
 use Rattle.laws.specs.Net.{Net}
 use Rattle.laws.specs.History.{versions_in}
@@ -22,7 +23,7 @@ abbrev says : ℕ → Content
 says n = record { value = n }
 
 -- what a list of calls tells, one after another
-abbrev tells : Net → List Call → List Told
+abbrev tells : Net → List Call → List (Result Told Cause)
 tells net cs = reverse (map (λ e. e.told) (play net (reverse cs)).history)
 
 -- ## Two transactions alone
@@ -33,8 +34,8 @@ alone_calls =
     ∷ Deliver 0 ∷ Deliver 0 ∷ Deliver 0 ∷ Deliver 0 ∷ Deliver 0 ∷ Deliver 0 ∷ []
 
 alone_tells : tells (two 1) alone_calls ≡
-    Begun 0 ∷ Begun 1 ∷ Drafts 1 ∷ Drafts 1 ∷ Sent 1 ∷ Sent 1
-    ∷ Prepared 0 0 ∷ Prepared 1 0 ∷ Placed 0 1 ∷ Placed 1 2 ∷ Ended 0 1 ∷ Ended 1 0 ∷ []
+    Ok (Begun 0) ∷ Ok (Begun 1) ∷ Ok (Drafts 1) ∷ Ok (Drafts 1) ∷ Ok (Sent 1) ∷ Ok (Sent 1)
+    ∷ Ok (Prepared 0 0) ∷ Ok (Prepared 1 0) ∷ Ok (Placed 0 1) ∷ Ok (Placed 1 2) ∷ Ok (Ended 0 1) ∷ Ok (Ended 1 0) ∷ []
 unfolding put
 alone_tells = refl
 
@@ -59,7 +60,7 @@ alone = record {
   second = record { key = 1; content = says 6 };
   first_drafts = refl;
   second_drafts = refl;
-  apart = λ e. let z : ◌≡◌ {A = ℕ} 0 1 = cc e in omega (arith, z);
+  apart = λ e. cc e;
   first_closed = refl;
   second_closed = refl;
   air_empty = refl;
@@ -74,8 +75,8 @@ held_calls =
     ∷ Deliver 0 ∷ Deliver 0 ∷ Deliver 1 ∷ []
 
 held_tells : tells (two 1) held_calls ≡
-    Begun 0 ∷ Begun 1 ∷ Drafts 1 ∷ Drafts 1 ∷ Sent 1 ∷ Sent 1
-    ∷ Prepared 0 0 ∷ Prepared 1 1 ∷ ToldRefused 1 0 ∷ []
+    Ok (Begun 0) ∷ Ok (Begun 1) ∷ Ok (Drafts 1) ∷ Ok (Drafts 1) ∷ Ok (Sent 1) ∷ Ok (Sent 1)
+    ∷ Ok (Prepared 0 0) ∷ Ok (Prepared 1 1) ∷ Ok (ToldRefused 1 0) ∷ []
 unfolding put
 held_tells = refl
 
@@ -98,8 +99,8 @@ full_calls =
     ∷ DraftCall 1 0 (says 6) ∷ Close 1 ∷ Deliver 1 ∷ Deliver 1 ∷ []
 
 full-tells : tells (two 1) full_calls ≡
-    Begun 0 ∷ Drafts 1 ∷ Sent 1 ∷ Prepared 0 0 ∷ Placed 0 1 ∷ Begun 1
-    ∷ Drafts 1 ∷ Sent 1 ∷ Prepared 1 3 ∷ ToldRefused 1 0 ∷ []
+    Ok (Begun 0) ∷ Ok (Drafts 1) ∷ Ok (Sent 1) ∷ Ok (Prepared 0 0) ∷ Ok (Placed 0 1) ∷ Ok (Begun 1)
+    ∷ Ok (Drafts 1) ∷ Ok (Sent 1) ∷ Ok (Prepared 1 3) ∷ Ok (ToldRefused 1 0) ∷ []
 unfolding put
 full-tells = refl
 
@@ -113,8 +114,8 @@ read_calls =
     ∷ []
 
 read-tells : tells (two 1) read_calls ≡
-    Fault Tower ∷ Begun 0 ∷ Fault Unknown ∷ Drafts 1 ∷ Own (says 5) ∷ Fault Key ∷ Sent 1 ∷ Fault PhaseFault ∷ Fault NoMessage
-    ∷ Prepared 0 0 ∷ Placed 0 1 ∷ Begun 1 ∷ Begun 2 ∷ Sent 1 ∷ Fault Air ∷ Queried 2
+    Err Tower ∷ Ok (Begun 0) ∷ Err Unknown ∷ Ok (Drafts 1) ∷ Ok (Own (says 5)) ∷ Err Key ∷ Ok (Sent 1) ∷ Err PhaseFault ∷ Err NoMessage
+    ∷ Ok (Prepared 0 0) ∷ Ok (Placed 0 1) ∷ Ok (Begun 1) ∷ Ok (Begun 2) ∷ Ok (Sent 1) ∷ Err Air ∷ Ok (Queried 2)
     ∷ []
 unfolding put
 read-tells = refl
@@ -125,8 +126,8 @@ list_calls =
     ∷ Read 1 2 ∷ Deliver 0 ∷ Deliver 0 ∷ DropCall 1 ∷ Begin 0 ∷ Close 2 ∷ Begin 0 ∷ []
 
 list_tells : tells (two 1) list_calls ≡
-    Begun 0 ∷ Drafts 1 ∷ Sent 1 ∷ Prepared 0 0 ∷ Placed 0 1 ∷ Ended 0 1 ∷ Begun 1 ∷ Sent 1 ∷ Queried 1 ∷ Shown 1 0 (Some (says 5))
-    ∷ Sent 1 ∷ Queried 1 ∷ Fault ListFull ∷ Fault PhaseFault ∷ Begun 2 ∷ ReadOnly ∷ Fault Full ∷ []
+    Ok (Begun 0) ∷ Ok (Drafts 1) ∷ Ok (Sent 1) ∷ Ok (Prepared 0 0) ∷ Ok (Placed 0 1) ∷ Ok (Ended 0 1) ∷ Ok (Begun 1) ∷ Ok (Sent 1) ∷ Ok (Queried 1) ∷ Ok (Shown 1 0 (Some (says 5)))
+    ∷ Ok (Sent 1) ∷ Ok (Queried 1) ∷ Err ListFull ∷ Err PhaseFault ∷ Ok (Begun 2) ∷ Ok ReadOnly ∷ Err Full ∷ []
 unfolding put
 list_tells = refl
 
@@ -136,7 +137,7 @@ early_calls =
     Begin 0 ∷ DraftCall 0 0 (says 5) ∷ Close 0 ∷ Deliver 0 ∷ Deliver 0 ∷ Begin 0 ∷ Read 1 1 ∷ Deliver 1 ∷ Deliver 0 ∷ Deliver 0 ∷ Deliver 0 ∷ []
 
 early_tells : tells (two 1) early_calls ≡
-    Begun 0 ∷ Drafts 1 ∷ Sent 1 ∷ Prepared 0 0 ∷ Placed 0 1 ∷ Begun 1 ∷ Sent 1 ∷ Fault Early ∷ Ended 0 1 ∷ Queried 1 ∷ Shown 1 1 None ∷ []
+    Ok (Begun 0) ∷ Ok (Drafts 1) ∷ Ok (Sent 1) ∷ Ok (Prepared 0 0) ∷ Ok (Placed 0 1) ∷ Ok (Begun 1) ∷ Ok (Sent 1) ∷ Err Early ∷ Ok (Ended 0 1) ∷ Ok (Queried 1) ∷ Ok (Shown 1 1 None) ∷ []
 unfolding put
 early_tells = refl
 
@@ -147,7 +148,7 @@ ahead_calls =
     ∷ DraftCall 1 1 (says 6) ∷ Close 1 ∷ Deliver 1 ∷ Deliver 1 ∷ Deliver 0 ∷ Deliver 0 ∷ []
 
 ahead-tells : tells (two 2) ahead_calls ≡
-    Begun 0 ∷ Drafts 1 ∷ Sent 1 ∷ Prepared 0 0 ∷ Placed 0 1 ∷ Begun 1 ∷ Sent 1 ∷ Queried 1 ∷ Shown 1 1 (Some (says 5))
-    ∷ Drafts 1 ∷ Sent 1 ∷ Prepared 1 0 ∷ Fault Early ∷ Ended 0 0 ∷ Placed 1 2 ∷ []
+    Ok (Begun 0) ∷ Ok (Drafts 1) ∷ Ok (Sent 1) ∷ Ok (Prepared 0 0) ∷ Ok (Placed 0 1) ∷ Ok (Begun 1) ∷ Ok (Sent 1) ∷ Ok (Queried 1) ∷ Ok (Shown 1 1 (Some (says 5)))
+    ∷ Ok (Drafts 1) ∷ Ok (Sent 1) ∷ Ok (Prepared 1 0) ∷ Err Early ∷ Ok (Ended 0 0) ∷ Ok (Placed 1 2) ∷ []
 unfolding put
 ahead-tells = refl

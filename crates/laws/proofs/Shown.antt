@@ -1,9 +1,10 @@
 -- What a reader is shown, in words. Assumes nothing.
 use Rattle.std.proofs.Common.{◌≡◌, ℕ, ◌<◌, ◌≤◌, Bool, true, false, cond, eqb, ◌⊎◌, List, [], ◌∷◌, Some, None, Option, sym, refl, ap, ◌∙◌, subst, inl, inr, arith}
+use Rattle.std.specs.Option.{option_or}
 use Rattle.std.proofs.lemmas.Bool.{eqb-false, cases_Bool, leb-true, leb-false}
 use Rattle.clocks.specs.declared.Version.{Version}
 use Rattle.messages.specs.declared.Draft.{Draft}
-use Rattle.laws.specs.Lists.{In, last_of, either}
+use Rattle.laws.specs.Lists.{In, last_of}
 use Rattle.laws.specs.Net.{Clock, Placement, Drafted, written, inside, newest_within}
 use Rattle.laws.proofs.Log.{wrote, versions, Seen}
 use Rattle.laws.proofs.Facts.{Numbered, Before, Right}
@@ -11,21 +12,21 @@ use Rattle.laws.proofs.Lists.{last-append}
 use Rattle.laws.proofs.Placed.{number-new}
 
 pub last_is : {A : Type 0} (q : A → Bool) (xs : List A) (v : A) → last_of q xs ≡ Some v → In v xs × (q v ≡ true)
-last_is q [] v e = let z : ◌≡◌ {A = ℕ} 0 1 = cc in absurd (omega arith)
+last_is q [] v e = absurd cc
 last_is q (x ∷ xs) v e = go (last_of q xs) refl (q x) refl (last_is q xs v) e
   where
-    go : (o : Option _) → last_of q xs ≡ o → (b : Bool) → q x ≡ b → (last_of q xs ≡ Some v → In v xs × (q v ≡ true)) → either o (cond b (Some x) None) ≡ Some v → In v (x ∷ xs) × (q v ≡ true)
+    go : (o : Option _) → last_of q xs ≡ o → (b : Bool) → q x ≡ b → (last_of q xs ≡ Some v → In v xs × (q v ≡ true)) → option_or o (cond b (Some x) None) ≡ Some v → In v (x ∷ xs) × (q v ≡ true)
     go (Some w) p b t ih f = let r = ih (p ∙ f) in (inr r.0, r.1)
     go None p true t ih f = let g : x ≡ v = cc f in (inl (sym g), sym (ap q g) ∙ t)
-    go None p false t ih f = let z : ◌≡◌ {A = ℕ} 0 1 = cc f in absurd (omega (arith, z))
+    go None p false t ih f = absurd (cc f)
 
 last_none : {A : Type 0} (q : A → Bool) (xs : List A) → last_of q xs ≡ None → (v : A) → In v xs → q v ≡ false
 last_none q [] e v h = absurd h
 last_none q (x ∷ xs) e v h = go (last_of q xs) refl (q x) refl (last_none q xs) e h
   where
-    go : (o : Option _) → last_of q xs ≡ o → (b : Bool) → q x ≡ b → (last_of q xs ≡ None → (v : _) → In v xs → q v ≡ false) → either o (cond b (Some x) None) ≡ None → In v (x ∷ xs) → q v ≡ false
-    go (Some w) p b t ih f h = let z : ◌≡◌ {A = ℕ} 0 1 = cc f in absurd (omega (arith, z))
-    go None p true t ih f h = let z : ◌≡◌ {A = ℕ} 0 1 = cc f in absurd (omega (arith, z))
+    go : (o : Option _) → last_of q xs ≡ o → (b : Bool) → q x ≡ b → (last_of q xs ≡ None → (v : _) → In v xs → q v ≡ false) → option_or o (cond b (Some x) None) ≡ None → In v (x ∷ xs) → q v ≡ false
+    go (Some w) p b t ih f h = absurd (cc f)
+    go None p true t ih f h = absurd (cc f)
     go None p false t ih f (inl g) = ap q g ∙ t
     go None p false t ih f (inr g) = ih p v g
 
@@ -73,7 +74,7 @@ shown_right (T ∷ P) b k n = rw (last-append (inside b) (versions P k) (wrote T
     outside_of : (v : Version) → (v.origin ≡ T.origin) × (v.number ≡ T.number) → b v.origin < v.number → Seen T b → ⊥
     outside_of v w l u = let l' : b T.origin < T.number = rw (w.1, w.0) at l in omega (arith, l', u)
 
-    go : Right P b k (newest_within b (versions P k)) → (o : Option Version) → newest_within b (wrote T k) ≡ o → Right (T ∷ P) b k (either o (newest_within b (versions P k)))
+    go : Right P b k (newest_within b (versions P k)) → (o : Option Version) → newest_within b (wrote T k) ≡ o → Right (T ∷ P) b k (option_or o (newest_within b (versions P k)))
     go ih (Some v) e =
         let l = last_is (inside b) (wrote T k) v e in
         let w = in_written T.tx T.origin T.number T.drafts k v l.0 in

@@ -1,16 +1,16 @@
 -- The invariant holds after every list of calls, and the facts follow. Assumes nothing.
-use Rattle.std.proofs.Common.{◌≡◌, ℕ, true, false, ◌⊎◌, List, [], ◌∷◌, Some, sym, refl, ap, ◌∙◌, subst, inl, inr, arith}
-use Rattle.std.proofs.lemmas.Bool.{cases_eq, cases_Bool, both_ways, leb-true, leb-false}
+use Rattle.std.proofs.Common.{◌≡◌, ℕ, true, false, ◌⊎◌, List, [], ◌∷◌, Some, refl, ap, ◌∙◌, subst, inl, inr, arith}
+use Rattle.std.proofs.lemmas.Bool.{cases_eq, cases_Bool, leb-true, leb-false}
 use Rattle.tables.specs.declared.Phase.TheVariants.{Closing, Refused, Dropped}
 use Rattle.messages.specs.declared.Objection.{Objection}
-use Rattle.laws.proofs.Conflicts.{unopposed, opposed, says_map, none-some}
+use Rattle.laws.proofs.Conflicts.{unopposed, opposed, says_map}
 use Rattle.laws.proofs.Origins.{Sound, OriginsOf, rule_origins}
 use Rattle.laws.specs.Lists.{In}
 use Rattle.laws.specs.Net.{Record, Placement, Net, Drafted, has_closed}
 use Rattle.laws.proofs.Log.{Seen, seen}
-use Rattle.laws.proofs.Model.{Logged, State, by_step, first, next, noting, on, placing, start, then}
+use Rattle.laws.proofs.Model.{Logged, State, by_step, first, next, start, then}
 use Rattle.laws.specs.Rules.{Rule, agrees, asks, begins, closes, closes_empty, counts, drafts, drops, grants, receives, releases, reads_own, objects, refuses, replies, takes_in}
-use Rattle.laws.specs.State.{placement, Visible}
+use Rattle.laws.specs.State.{Visible}
 use Rattle.laws.specs.Words.{redrafted, homed, granted_to, Event}
 use Rattle.laws.proofs.Placed.{Ordered, number_le, taken_all}
 use Rattle.laws.proofs.Invariant.{Intent, intent, intents, Justified, Invariant}
@@ -25,22 +25,22 @@ use Rattle.laws.proofs.Shown.{shown_right}
 use Rattle.laws.proofs.Granting.{takes_in_keeps, grants_keeps}
 
 rule_keeps : (net : Net) {s : State} {v' : Visible} {c : Call} {a : Told} → Invariant net s → (x : Rule net s.vis v' c a) → Invariant net (next net s x)
-rule_keeps net {s} v (begins t l _ e) = subst (λ (w : Visible). Invariant net (on s w)) (sym e) (begins_keeps net s t v)
-rule_keeps net {s} v (reads_own i k d o h e) = subst (λ (w : Visible). Invariant net (on s w)) (sym e) v
-rule_keeps net {s} v (asks i k o _ n e) = subst (λ (w : Visible). Invariant net (on s w)) (sym e) (asks_keeps net s i k v o)
-rule_keeps net {s} v (drafts i k w o _ _ e) = subst (λ (w : Visible). Invariant net (on s w)) (sym e) (drafts_keeps net s i (redrafted k w (s.vis.records i).drafts) v o)
-rule_keeps net {s} v (drops i o e) = subst (λ (w : Visible). Invariant net (on s w)) (sym e) (drops_keeps net s i v o)
-rule_keeps net {s} v (closes_empty i o n e) = subst (λ (w : Visible). Invariant net (on s w)) (sym e) (closes_empty_keeps net s i v o)
-rule_keeps net {s} v (closes i o n e) = subst (λ (w : Visible). Invariant net (on s w)) (sym e) (closes_keeps net s i v o)
-rule_keeps net {s} v (replies p m k first r b e) = subst (λ (w : Visible). Invariant net (on s w)) (sym e) (replies_keeps net s p m k first v r b)
-rule_keeps net {s} v (receives p m k shown a b e) = subst (λ (w : Visible). Invariant net (noting s (record { tx = m.tx; key = k; shown = shown }) w)) (sym e) (receives_keeps net s p m k shown v a b)
-rule_keeps net {s} v (agrees p m lines r b n e) = subst (λ (w : Visible). Invariant net (on s w)) (sym e) (agrees_keeps net s p m lines v r b (unopposed net s.vis m lines n))
-rule_keeps net {s} v (objects p m lines k r b y e) = subst (λ (w : Visible). Invariant net (on s w)) (sym e) (let o = opposed net s.vis m lines k y in objects_keeps net s p m lines k v r b o.0 o.1)
-rule_keeps net {s} v (counts p m named r b l e) = subst (λ (w : Visible). Invariant net (on s w)) (sym e) (counts_keeps net s p m named v r b)
-rule_keeps net {s} v (grants p m named r b l q e) = subst (λ (w : Visible). Invariant net (placing s (placement s.vis m.tx) w)) (sym e) (grants_keeps net s p m named v r b l q)
-rule_keeps net {s} v (refuses p m named k r b l q e) = subst (λ (w : Visible). Invariant net (on s w)) (sym e) (refuses_keeps net s p m named k v r b l q)
-rule_keeps net {s} v (takes_in p m n lines r b l e) = subst (λ (w : Visible). Invariant net (on s w)) (sym e) (takes_in_keeps net s p m n lines v r b l)
-rule_keeps net {s} v (releases p m a b e) = subst (λ (w : Visible). Invariant net (on s w)) (sym e) (releases_keeps net s p m v a b)
+rule_keeps net {s} v (begins t l _ e) = begins_keeps net s t v
+rule_keeps net {s} v (reads_own i k d o h e) = v
+rule_keeps net {s} v (asks i k o _ n e) = asks_keeps net s i k v o
+rule_keeps net {s} v (drafts i k w o _ _ e) = drafts_keeps net s i (redrafted k w (s.vis.records i).drafts) v o
+rule_keeps net {s} v (drops i o e) = drops_keeps net s i v o
+rule_keeps net {s} v (closes_empty i o n e) = closes_empty_keeps net s i v o
+rule_keeps net {s} v (closes i o n e) = closes_keeps net s i v o
+rule_keeps net {s} v (replies p m k first r b e) = replies_keeps net s p m k first v r b
+rule_keeps net {s} v (receives p m k shown a b e) = receives_keeps net s p m k shown v a b
+rule_keeps net {s} v (agrees p m lines r b n e) = agrees_keeps net s p m lines v r b (unopposed net s.vis m lines n)
+rule_keeps net {s} v (objects p m lines k r b y e) = let o = opposed net s.vis m lines k y in objects_keeps net s p m lines k v r b o.0 o.1
+rule_keeps net {s} v (counts p m named r b l e) = counts_keeps net s p m named v r b
+rule_keeps net {s} v (grants p m named r b l q e) = grants_keeps net s p m named v r b l q
+rule_keeps net {s} v (refuses p m named k r b l q e) = refuses_keeps net s p m named k v r b l q
+rule_keeps net {s} v (takes_in p m n lines r b l e) = takes_in_keeps net s p m n lines v r b l
+rule_keeps net {s} v (releases p m a b e) = releases_keeps net s p m v a b
 
 pub new_holds : (net : Net) → Invariant net first
 new_holds net = record {
@@ -77,18 +77,18 @@ new_holds net = record {
   outcomes = record { coming = λ E t h. absurd h; meant = λ m n ls h. absurd h };
   refusals = record {
     voted = λ m k h. absurd h;
-    named = λ i k c. absurd (both_ways false refl c);
+    named = λ i k c. absurd (cc c);
     refused = λ i c. absurd (differ Dropped Refused refl refl c);
   };
 }
 
 pub run_holds : (net : Net) {h : List Event} {s : State} → Logged net h s → Invariant net s
 run_holds net start = new_holds net
-run_holds net (then {s = s} r x) = by_step net (Invariant net) s (run_holds net r) (rule_keeps net (run_holds net r)) x
+run_holds net (then {s = s} r x) = by_step net (Invariant net) s (run_holds net r) (λ _. rule_keeps net (run_holds net r)) x
 
 pub run_origins : (net : Net) {h : List Event} {s : State} → Logged net h s → OriginsOf s
-run_origins net start = record { held = λ h q. absurd q; voted = λ m a q. absurd q; named = λ i a q. absurd (none-some refl q) }
-run_origins net (then {s = s} r x) = by_step net OriginsOf s (run_origins net r) (rule_origins net s (run_holds net r) (run_origins net r)) x
+run_origins net start = record { held = λ h q. absurd q; voted = λ m a q. absurd q; named = λ i a q. absurd (cc q) }
+run_origins net (then {s = s} r x) = by_step net OriginsOf s (run_origins net r) (λ _. rule_origins net s (run_holds net r) (run_origins net r)) x
 
 -- ## The facts
 

@@ -1,5 +1,5 @@
 -- A write to an array is a change of the map that it stands for. Assumes nothing.
-use Rattle.std.proofs.Common.{◌≡◌, ℕ, zero, suc, ◌+◌, ◌-◌, ◌<◌, ◌≤◌, Bool, true, false, cond, eqb, leb, ◌⊎◌, List, [], ◌∷◌, ◌++◌, length, get_or, take, drop, set, Some, filter, sym, refl, ap, ◌∙◌, subst, inl, inr, append_assoc, append-nil, arith}
+use Rattle.std.proofs.Common.{◌≡◌, ℕ, zero, suc, ◌+◌, ◌-◌, ◌<◌, ◌≤◌, Bool, true, false, cond, eqb, leb, ◌⊎◌, List, [], ◌∷◌, ◌++◌, length, get_or, take, drop, set, Some, sym, refl, ap, ◌∙◌, subst, inl, inr, append_assoc, append-nil, arith}
 use mathlib.Core.Path.{fun_ext}
 use Rattle.std.proofs.lemmas.List.{get_or-set_same, get_or-set_other, get_or_append_left, get_or_push, get_or_past, length_push, take_more}
 use Rattle.std.proofs.lemmas.Bool.{cases_eq, cases_lt, cases_Bool, both_ways, and_from, le-leb, lt-leb, lt-ltb, le-ltb, eq-eqb, ne_eqb}
@@ -8,7 +8,7 @@ use Rattle.clocks.specs.Clocks.{Covers, covers, within}
 use Rattle.clocks.proofs.Covering.{covers-true, true-covers}
 use Rattle.laws.specs.Faults.{covers_first}
 use Rattle.laws.proofs.Answering.{covers_below}
-use Rattle.laws.specs.Lists.{put, At, without, those}
+use Rattle.laws.specs.Lists.{put, At, without}
 use Rattle.messages.specs.declared.Draft.{Draft}
 use Rattle.laws.specs.Net.{Clock, written, inside, newest, newest_within}
 use Rattle.laws.specs.State.{Visible}
@@ -16,21 +16,16 @@ use Rattle.laws.specs.Words.{holds_of}
 use Rattle.laws.specs.View.{clock_of, clocks_of}
 use Rattle.laws.proofs.Lists.{put_same, put_other, last-append}
 
--- `v[i] = a`
-pub map-set : {A : Type 0} (xs : List A) (i : ℕ) (a d : A) → i < length xs → (λ (j : ℕ). get_or (set xs i a) j d) ≡ put (λ j. get_or xs j d) i a
-map-set xs i a d l = fun_ext (λ j. go j (cases_eq i j))
-  where
-    go : (j : ℕ) → (i ≡ j) ⊎ (i ≡ j → ⊥) → get_or (set xs i a) j d ≡ put (λ j. get_or xs j d) i a j
-    go j (inl e) = subst (λ (n : ℕ). get_or (set xs i a) n d ≡ a) e (get_or-set_same xs i a d l) ∙ sym (put_same (λ j. get_or xs j d) i a j e)
-    go j (inr n) = get_or-set_other xs i j a d (λ q. n (sym q)) ∙ sym (put_other (λ j. get_or xs j d) i a j n)
-
--- the same, where the map has a part of each element
+-- `v[i] = a`, where the map has a part of each element
 pub map_set_by : {A B : Type 0} (g : A → B) (xs : List A) (i : ℕ) (a d : A) (b : B) → i < length xs → g a ≡ b → (λ (j : ℕ). g (get_or (set xs i a) j d)) ≡ put (λ j. g (get_or xs j d)) i b
 map_set_by g xs i a d b l q = fun_ext (λ j. go j (cases_eq i j))
   where
     go : (j : ℕ) → (i ≡ j) ⊎ (i ≡ j → ⊥) → g (get_or (set xs i a) j d) ≡ put (λ j. g (get_or xs j d)) i b j
     go j (inl e) = ap g (subst (λ (n : ℕ). get_or (set xs i a) n d ≡ a) e (get_or-set_same xs i a d l)) ∙ q ∙ sym (put_same (λ j. g (get_or xs j d)) i b j e)
     go j (inr n) = ap g (get_or-set_other xs i j a d (λ q. n (sym q))) ∙ sym (put_other (λ j. g (get_or xs j d)) i b j n)
+
+pub map-set : {A : Type 0} (xs : List A) (i : ℕ) (a d : A) → i < length xs → (λ (j : ℕ). get_or (set xs i a) j d) ≡ put (λ j. get_or xs j d) i a
+map-set xs i a d l = map_set_by (λ x. x) xs i a d a l refl
 
 -- `v.push(a)`
 pub map_push : {A : Type 0} (xs : List A) (a d : A) → (λ (j : ℕ). get_or (xs ++ a ∷ []) j d) ≡ put (λ j. get_or xs j d) (length xs) a
@@ -55,21 +50,10 @@ without-cut [] (suc i) = refl
 without-cut (x ∷ xs) zero = refl
 without-cut (x ∷ xs) (suc i) = ap (λ l. x ∷ l) (without-cut xs i)
 
--- a filter of the library
-pub those_kept : {A : Type 0} (q : A → Bool) (xs : List A) → those q xs ≡ filter q xs
-those_kept q [] = refl
-those_kept q (x ∷ xs) = rw (those_kept q xs)
-
 -- `rows[t][o] = n`
 pub clocks-set : (rows : List (List ℕ)) (t o n : ℕ) → t < length rows → o < length (get_or rows t []) →
     clocks_of (set rows t (set (get_or rows t []) o n)) ≡ put (clocks_of rows) t (put (clocks_of rows t) o n)
-clocks-set rows t o n l m = fun_ext (λ u. go u (cases_eq t u))
-  where
-    go : (u : ℕ) → (t ≡ u) ⊎ (t ≡ u → ⊥) → clocks_of (set rows t (set (get_or rows t []) o n)) u ≡ put (clocks_of rows) t (put (clocks_of rows t) o n) u
-    go u (inl e) =
-        ap clock_of (subst (λ (v : ℕ). get_or (set rows t (set (get_or rows t []) o n)) v [] ≡ set (get_or rows t []) o n) e (get_or-set_same rows t (set (get_or rows t []) o n) [] l))
-        ∙ map-set (get_or rows t []) o n 0 m ∙ sym (put_same (clocks_of rows) t (put (clocks_of rows t) o n) u e)
-    go u (inr e) = ap clock_of (get_or-set_other rows t u (set (get_or rows t []) o n) [] (λ q. e (sym q))) ∙ sym (put_other (clocks_of rows) t (put (clocks_of rows t) o n) u e)
+clocks-set rows t o n l m = map_set_by clock_of rows t (set (get_or rows t []) o n) [] (put (clocks_of rows t) o n) l (map-set (get_or rows t []) o n 0 m)
 
 -- a loop over a book that keeps what is to be shown
 pub shown_more_in : (c : Clock) (book : List Version) (i : ℕ) (d : Version) → i < length book → (get_or book i d).number ≤ c (get_or book i d).origin → Some (get_or book i d) ≡ newest_within c (take (i + 1) book)

@@ -1,27 +1,29 @@
 -- A prepare, or a vote that grants nothing, that lands keeps the invariant. Assumes nothing.
-use Rattle.std.proofs.Common.{◌≡◌, ℕ, zero, suc, pred, ◌<◌, ◌≤◌, Bool, true, false, cond, ◌&&◌, eqb, ◌≢◌, ◌⊎◌, List, [], ◌∷◌, ◌++◌, length, Some, None, Option, sym, refl, ap, ◌∙◌, subst, inl, inr, arith}
+use Rattle.std.proofs.Common.{◌≡◌, ℕ, suc, pred, ◌<◌, ◌≤◌, Bool, true, false, cond, ◌&&◌, eqb, ◌≢◌, ◌⊎◌, List, [], ◌∷◌, ◌++◌, length, Some, None, Option, sym, refl, ap, ◌∙◌, subst, inl, inr, arith}
+use Rattle.std.specs.Option.{option_or}
 use Rattle.std.proofs.lemmas.Bool.{eq-eqb, ne_eqb, cases_eq, cases_Bool, cond-true, cond-false, both_ways, leb-true, leb-false, and_left, and_from}
 use Rattle.clocks.specs.declared.Version.{Version}
 use Rattle.messages.specs.declared.Draft.{Draft}
 use Rattle.tables.specs.declared.Held.{Held}
 use Rattle.tables.specs.declared.Phase.TheVariants.{Waiting, Closing, Granted, Refused, Dropped}
 use Rattle.messages.specs.declared.Objection.{Objection}
-use Rattle.laws.proofs.Conflicts.{Conflicts, taken_by, newer, full, Evidence, either_cases, either-none, Any}
+use Rattle.laws.proofs.Conflicts.{Conflicts, taken_by, newer, full, Evidence, option_or_cases, option_or_parts, Any}
 use Rattle.messages.specs.declared.Conflict.{Conflict}
 use Rattle.messages.specs.declared.Conflict.TheVariants.{Held as HeldBy, Newer, Full}
 use Rattle.laws.specs.Laws.{Says}
-use Rattle.laws.specs.Lists.{put, In, At, without, either}
+use Rattle.laws.specs.Lists.{put, In, At, without}
 use Rattle.laws.specs.Net.{Clock, Record, prepare, vote, refused, Message, Placement, Net, ◌⊑◌, Drafted, inside, newest, has_closed}
 use Rattle.laws.proofs.Log.{taken, Seen, seen, IsPlaced}
 use Rattle.laws.proofs.Model.{State, on}
 use Rattle.laws.specs.Rules.{Ripe, counted, released, refusing, voted}
 use Rattle.laws.specs.State.{holding}
-use Rattle.laws.specs.Words.{voting, message, unless_none, holds_of, homed, freed, refused_to, refusals_to}
+use Rattle.laws.specs.Words.{voting, message, holds_of, freed, refusals_to}
 use Rattle.laws.proofs.Lists.{put_same, put_other, put_case, in_left, in_right, in_append, in_at, in_without, in_rest, tally-append, tally_at, none_left}
+use Rattle.laws.proofs.Sent.{each-refusal}
 use Rattle.laws.proofs.Placed.{Closed, By, newest-covers, newest_by}
 use Rattle.laws.proofs.Invariant.{Intent, intent, Intents, intents, is_read, is_ballot, is_granted, polled, ballots, Holds, Holders, Ballot, Votes, Rival, Justified, Invariant}
 use Rattle.laws.proofs.Frames.{same-put, holders_same, granteds_put, bounds-put, unbegun_put, reads-put, refusals_put, votes_landed, votes_sent, votes_held, reads_landed, reads-sent, outcomes_landed, outcomes_sent, refusals_landed, refusals_sent, holds_left, holds_freed, freed_keeps, differ, only, intent_shut, placed_intent, placed-once, placed-other}
-use Rattle.laws.proofs.Calls.{no_vote, homed-drafted, drafted-homed}
+use Rattle.laws.proofs.Calls.{homed-drafted, drafted-homed}
 
 -- ## What is held for the lines
 
@@ -150,16 +152,16 @@ agrees_keeps net s p m lines v ripe e none =
           (record {
             closing = b.closing;
             bound = b.bound;
-            asker = λ ls c. absurd (no_vote c refl);
+            asker = λ ls c. absurd (cc c);
             asked = λ _ _. b.asker lines e;
-            lines = λ ls c. absurd (no_vote c refl);
+            lines = λ ls c. absurd (cc c);
             holds = λ _ k d o. holds_right s.vis.held (holds_of m.tx m.from lines) k m.tx (holds_of_has m.tx m.from lines k (rw (b.lines lines e) (drafted-homed net m.to (rs m.tx).drafts k o d)));
           })
           (votes_held net rs s.vis.held held' s.vis.air (λ k i _ h. holds_left s.vis.held (holds_of m.tx m.from lines) k i h) v.votes);
       reads = reads-sent net P rs rest s.readings (q ∷ []) (only (λ x. is_read x.body ≡ false) q refl) (reads_landed net P rs s.vis.air s.readings p m a v.reads);
       outcomes = outcomes_sent net P s.vis.clocks rest (q ∷ []) (only (λ x. is_granted x.body ≡ false) q refl) (outcomes_landed net P s.vis.clocks s.vis.air p m a (ap is_granted e) v.outcomes);
       refusals = refusals_sent net P rs s.vis.book rest (q ∷ [])
-          (λ x j. only (λ x. x.body ≡ vote (Some j) → Justified net (intents rs) P s.vis.book x.tx j) q (λ e. let z : ◌≡◌ {A = ℕ} 0 1 = cc in absurd (omega arith)) x)
+          (λ x j. only (λ x. x.body ≡ vote (Some j) → Justified net (intents rs) P s.vis.book x.tx j) q (λ e. absurd cc) x)
           (refusals_landed net P rs s.vis.book s.vis.air p v.refusals);
     }
 
@@ -231,10 +233,10 @@ objects_keeps net s p m lines k v ripe e d x =
           (record {
             closing = b.closing;
             bound = b.bound;
-            asker = λ ls c. absurd (no_vote c refl);
+            asker = λ ls c. absurd (cc c);
             asked = λ _ _. b.asker lines e;
-            lines = λ ls c. absurd (no_vote c refl);
-            holds = λ c k d o. let z : ◌≡◌ {A = ℕ} 0 1 = cc c in absurd (omega (arith, z));
+            lines = λ ls c. absurd (cc c);
+            holds = λ c k d o. absurd (cc c);
           })
           v.votes;
       reads = reads-sent net P rs rest s.readings (q ∷ []) (only (λ x. is_read x.body ≡ false) q refl) (reads_landed net P rs s.vis.air s.readings p m a v.reads);
@@ -260,19 +262,19 @@ ballots-other i air p m a t =
     omega (arith, tally_at f air p m a, e)
 
 -- the key named so far, or by this vote, is named for cause
-named-cause : (net : Net) (s : State) (m : Message) (named : Option Objection) (k : Objection) → Invariant net s → In m s.vis.air → m.body ≡ vote named → (s.vis.records m.tx).phase ≡ Closing → either (s.vis.records m.tx).named named ≡ Some k →
+named-cause : (net : Net) (s : State) (m : Message) (named : Option Objection) (k : Objection) → Invariant net s → In m s.vis.air → m.body ≡ vote named → (s.vis.records m.tx).phase ≡ Closing → option_or (s.vis.records m.tx).named named ≡ Some k →
     Justified net (intents s.vis.records) s.placed s.vis.book m.tx k
-named-cause net s m named k v h e c q = elim (either_cases (s.vis.records m.tx).named named k q) [
+named-cause net s m named k v h e c q = elim (option_or_cases (s.vis.records m.tx).named named k q) [
   | inl f ↦ v.refusals.named m.tx k (ap has_closed c) f
   | inr f ↦ v.refusals.voted m k h (e ∙ ap vote f.1)
 ]
 
 counts_votes : (net : Net) (rs : ℕ → Record) (held : List Held) (air : List Message) (p : ℕ) (m : Message) (named : Option Objection) → At air p m → m.body ≡ vote named → Votes net rs held air →
-    Votes net (put rs m.tx (voting Closing (pred (rs m.tx).awaited) (either (rs m.tx).named named) (rs m.tx))) held (without air p)
+    Votes net (put rs m.tx (voting Closing (pred (rs m.tx).awaited) (option_or (rs m.tx).named named) (rs m.tx))) held (without air p)
 counts_votes net rs held air p m named a e g =
     let i = m.tx in
     let old = rs i in
-    let r = voting Closing (pred old.awaited) (either old.named named) old in
+    let r = voting Closing (pred old.awaited) (option_or old.named named) old in
     let rest = without air p in
     let h = in_at air p m a in
     let b = g.sound m h (ap is_ballot e) in
@@ -284,7 +286,7 @@ counts_votes net rs held air p m named a e g =
           (λ j n c. g.awaited j c ∙ ballots-other j air p m a n);
       pending = λ j k. put_case (λ j x. x.phase ≡ Closing → Drafted x.drafts k → x.named ≡ None →
           Holds held k j ⊎ ((m : Message) × In m rest × (m.tx ≡ j) × (is_ballot m.body ≡ true) × (polled m ≡ net.home k))) rs i r
-          (λ _ d n. let ns = either-none old.named named n in
+          (λ _ d n. let ns = option_or_parts old.named named n in
           elim (g.pending i k b.closing d ns.0) [
             | inl h ↦ inl h
             | inr x ↦ elim (in_rest air p m x.0 a x.1) [
@@ -311,7 +313,7 @@ counts_keeps net s p m named v ripe e =
     let P = s.placed in
     let i = m.tx in
     let old = s.vis.records i in
-    let r = voting Closing (pred old.awaited) (either old.named named) old in
+    let r = voting Closing (pred old.awaited) (option_or old.named named) old in
     let rs = put s.vis.records i r in
     let rest = without s.vis.air p in
     let c : old.phase ≡ Closing = (v.votes.sound m h (ap is_ballot e)).closing in
@@ -375,19 +377,7 @@ holders_freed net I P cs book held i t n g =
     }
 
 -- a property of each refused outcome
-pub each-refusal : (net : Net) (i : ℕ) (r : Record) (n : ℕ) (Q : Message → Type 0) → ((t : ℕ) → Q (refused_to net i r t)) → (x : Message) → In x (refusals_to net i r n) → Q x
-each-refusal net i r zero Q f x h = absurd h
-each-refusal net i r (suc t) Q f x h = elim (in_append x (refusals_to net i r t) _ h) [
-  | inl g ↦ each-refusal net i r t Q f x g
-  | inr g ↦ go (eqb t r.origin) (homed net t r.drafts) g
-]
-  where
-    go : (b : Bool) (ds : List Draft) → In x (cond b [] (unless_none ds (refused_to net i r t))) → Q x
-    go true ds g = absurd g
-    go false [] g = absurd g
-    go false (d ∷ ds) g = only Q (refused_to net i r t) (f t) x g
-
-pub refuses_keeps : (net : Net) (s : State) (p : ℕ) (m : Message) (named : Option Objection) (k : Objection) → Invariant net s → Ripe net s.vis p m → m.body ≡ vote named → (s.vis.records m.tx).awaited ≡ 1 → either (s.vis.records m.tx).named named ≡ Some k → Invariant net (on s (refusing net s.vis p m k))
+pub refuses_keeps : (net : Net) (s : State) (p : ℕ) (m : Message) (named : Option Objection) (k : Objection) → Invariant net s → Ripe net s.vis p m → m.body ≡ vote named → (s.vis.records m.tx).awaited ≡ 1 → option_or (s.vis.records m.tx).named named ≡ Some k → Invariant net (on s (refusing net s.vis p m k))
 refuses_keeps net s p m named k v ripe e one q =
     let a = ripe.there in
     let h = in_at s.vis.air p m a in
@@ -421,7 +411,7 @@ refuses_keeps net s p m named k v ripe e one q =
           (reads-put net P s.vis.records i r rest s.readings (differ Closing Waiting refl c) (λ q. (q, refl)) (reads_landed net P s.vis.records s.vis.air s.readings p m a v.reads));
       outcomes = outcomes_sent net P s.vis.clocks rest ms (each (λ x. is_granted x.body ≡ false) (λ t. refl)) (outcomes_landed net P s.vis.clocks s.vis.air p m a (ap is_granted e) v.outcomes);
       refusals = refusals_sent net P rs s.vis.book rest ms
-          (λ x j. each (λ x. x.body ≡ vote (Some j) → Justified net (intents rs) P s.vis.book x.tx j) (λ t b. absurd (both_ways false refl (ap is_ballot b))) x)
+          (λ x j. each (λ x. x.body ≡ vote (Some j) → Justified net (intents rs) P s.vis.book x.tx j) (λ t b. absurd (cc b)) x)
           (refusals_put net P s.vis.records i r s.vis.book rest same
           (λ j _ n. let ej : k ≡ j = cc n in subst (λ (a : Objection). Justified net (intents s.vis.records) P s.vis.book i a) ej (named-cause net s m named k v h e c q))
           (λ _. (k, refl))

@@ -1,5 +1,6 @@
 -- Which fault turns a call down: the first of its checks that fails, in their order.
 use Rattle.std.specs.Prelude.{ℕ, zero, suc, ◌+◌, Bool, true, false, cond, ◌&&◌, List, [], ◌∷◌, length, Some, None, Option, ◌==◌, nat_le, nat_lt}
+use Rattle.std.specs.Option.{option_or}
 use Rattle.std.specs.List.{slice_get}
 use Rattle.faults.specs.declared.Cause.{Cause}
 use Rattle.faults.specs.declared.Cause.TheVariants.{Tower, Unknown, Key, Phase as PhaseFault, Full, Drafts as TooMany, Air, Message as NoMessage, Early, List as ListFull}
@@ -9,7 +10,7 @@ use Rattle.tables.specs.declared.Phase.{Phase}
 use Rattle.tables.specs.declared.Phase.TheVariants.{Open, Waiting, Closing, Granted, Refused, Dropped}
 use Rattle.tables.specs.declared.Call.{Call}
 use Rattle.tables.specs.declared.Call.TheVariants.{Begin, Read, Draft as DraftCall, Close, Drop as DropCall, Deliver}
-use Rattle.laws.specs.Lists.{without, either}
+use Rattle.laws.specs.Lists.{without}
 use Rattle.laws.specs.Net.{Clock, Body, query, answer, prepare, vote, granted, refused, Message, Net}
 use Rattle.laws.specs.Words.{draft_of, redrafted, prepares, grants_to, refusals_to}
 use Rattle.laws.specs.State.{Visible, placement}
@@ -78,7 +79,7 @@ module _ (net : Net) (v : Visible) where
   delivery_fault p m (query k first) = None
   delivery_fault p m (answer k shown) = unless (nat_lt (length v.readings) net.reading_places) ListFull None
   delivery_fault p m (prepare lines) = None
-  delivery_fault p m (vote named) = cond ((v.records m.tx).awaited == 1) (unless_room (room (length (outcomes_of m.tx (either (v.records m.tx).named named))) (without v.air p))) None
+  delivery_fault p m (vote named) = cond ((v.records m.tx).awaited == 1) (unless_room (room (length (outcomes_of m.tx (option_or (v.records m.tx).named named))) (without v.air p))) None
   delivery_fault p m (granted n lines) = None
   delivery_fault p m refused = None
 

@@ -1,5 +1,5 @@
 -- What a frame can carry, and an air of frames.
-use Rattle.std.specs.Prelude.{◌≡◌, ℕ, ◌<◌, ◌≤◌, Bool, true, List, [], ◌∷◌, map, length, Some, None, Option}
+use Rattle.std.specs.Prelude.{◌≡◌, ℕ, ◌<◌, ◌≤◌, Bool, true, List, [], ◌∷◌, map, length, Some, None, Option, Result}
 use Rattle.clocks.specs.declared.Content.{Content}
 use Rattle.clocks.specs.declared.Version.{Version}
 use Rattle.messages.specs.declared.Draft.{Draft}
@@ -10,6 +10,7 @@ use Rattle.tables.specs.declared.Reading.{Reading}
 use Rattle.tables.specs.declared.Held.{Held}
 use Rattle.tables.specs.declared.Call.{Call}
 use Rattle.tables.specs.declared.Call.TheVariants.{Begin, Read, Draft as DraftCall, Close, Drop as DropCall, Deliver}
+use Rattle.faults.specs.declared.Cause.{Cause}
 use Rattle.tables.specs.declared.Told.{Told}
 use Rattle.laws.specs.Lists.{In}
 use Rattle.laws.specs.Net.{Clock, Record, Body, query, answer, prepare, vote, granted, refused, Message, Net}
@@ -135,7 +136,7 @@ module _ (net : Net) (ok : Content → Bool) (codec : Codec net ok) where
   framed v = with_frames v (map codec.frame_of v.air)
 
   -- the frames are read, a call does with the messages what it does, and what is then in the air is written
-  pub record StepF (f f' : Framed) (c : Call) (a : Told) : Type 0 where
+  pub record StepF (f f' : Framed) (c : Call) (a : Result Told Cause) : Type 0 where
     pub before : Visible
     pub after : Visible
     pub same : f ≡ with_frames before f.frames
@@ -145,7 +146,7 @@ module _ (net : Net) (ok : Content → Bool) (codec : Codec net ok) where
 
   pub data RunF : List Event → Framed → Type 0 where
     start : RunF [] (framed new)
-    then : {h : List Event} {f f' : Framed} {c : Call} {a : Told} → RunF h f → StepF f f' c a → RunF (record { call = c; told = a } ∷ h) f'
+    then : {h : List Event} {f f' : Framed} {c : Call} {a : Result Told Cause} → RunF h f → StepF f f' c a → RunF (record { call = c; told = a } ∷ h) f'
 
   -- every frame in the air reads back as its message, and the laws hold
   pub record Carried (h : List Event) (f : Framed) : Type 0 where

@@ -1,16 +1,18 @@
 -- Further laws, each by its name.
-use Rattle.std.specs.Prelude.{◌≡◌, ℕ, ◌+◌, ◌<◌, ◌≤◌, true, ◌≢◌, ◌⊎◌, List, [], ◌∷◌, length, None, Option, nat_eq}
+use Rattle.std.specs.Prelude.{◌≡◌, ℕ, ◌+◌, ◌<◌, ◌≤◌, true, ◌≢◌, ◌⊎◌, List, [], ◌∷◌, length, None, Option, Result, nat_eq}
+use Rattle.std.specs.Option.{option_or}
 use Rattle.clocks.specs.declared.Version.{Version}
 use Rattle.messages.specs.declared.Draft.{Draft}
 use Rattle.messages.specs.declared.Objection.{Objection}
 use Rattle.tables.specs.declared.Call.{Call}
+use Rattle.faults.specs.declared.Cause.{Cause}
 use Rattle.tables.specs.declared.Told.{Told}
 use Rattle.tables.specs.declared.Phase.{Phase}
 use Rattle.tables.specs.declared.Phase.TheVariants.{Waiting, Closing, Granted, Refused}
-use Rattle.laws.specs.Lists.{In, At, tally, either}
+use Rattle.laws.specs.Lists.{In, At, tally}
 use Rattle.laws.specs.Net.{Body, query, answer, prepare, vote, granted, refused, Message, Net, ◌⊑◌, Drafted, has_closed, ballots, is_ballot, pending_of}
 use Rattle.laws.specs.Words.{Event}
-use Rattle.laws.specs.History.{placed_in, begun_in, placed_before_in, origin_in, drafts_in, number_in, place_in, from_one, Within, Outside}
+use Rattle.laws.specs.History.{placed_in, begun_in, placed_before_in, origin_in, drafts_in, number_in, place_in, Within, Outside}
 use Rattle.laws.specs.State.{Visible}
 use Rattle.laws.specs.Rules.{Step, Run}
 
@@ -52,7 +54,7 @@ ClosingAwaits net h v = (i : ℕ) → (v.records i).phase ≡ Closing → Awaite
 pub record FindsRoom (net : Net) (h : List Event) (v : Visible) : Type 0 where
   pub never_over : (k : ℕ) → length (v.book k) ≤ net.depth
   pub at_outcome : (m : Message) (n : ℕ) (ls : List Draft) (k : ℕ) → In m v.air → m.body ≡ granted n ls → Drafted ls k → length (v.book k) < net.depth
-  pub at_grant : (p : ℕ) (m : Message) (named : Option Objection) (k : ℕ) → At v.air p m → m.body ≡ vote named → (v.records m.tx).awaited ≡ 1 → either (v.records m.tx).named named ≡ None → Drafted (v.records m.tx).drafts k → length (v.book k) < net.depth
+  pub at_grant : (p : ℕ) (m : Message) (named : Option Objection) (k : ℕ) → At v.air p m → m.body ≡ vote named → (v.records m.tx).awaited ≡ 1 → option_or (v.records m.tx).named named ≡ None → Drafted (v.records m.tx).drafts k → length (v.book k) < net.depth
   pub one_line : (m : Message) (n : ℕ) (ls : List Draft) (k : ℕ) → In m v.air → m.body ≡ granted n ls → tally (λ d. nat_eq d.key k) ls ≤ 1
   pub one_draft : (i k : ℕ) → tally (λ d. nat_eq d.key k) (v.records i).drafts ≤ 1
 
@@ -81,15 +83,15 @@ MessagesAtHome net h v = (m : Message) → In m v.air → AtHome net h v m
 
 -- whatever is called, there is something to tell
 abbrev pub EveryCallAnswered : Net → List Event → Visible → Type 0
-EveryCallAnswered net h v = (c : Call) → (a : Told) × (v' : Visible) × Step net v v' c a
+EveryCallAnswered net h v = (c : Call) → (a : Result Told Cause) × (v' : Visible) × Step net v v' c a
 
 -- a call tells one thing, and does one thing
-pub record SameAnswer (a b : Told) (v w : Visible) : Type 0 where
+pub record SameAnswer (a b : Result Told Cause) (v w : Visible) : Type 0 where
   pub told : a ≡ b
   pub state : v ≡ w
 
 abbrev pub AnswersDetermined : Type 0
-AnswersDetermined = (net : Net) (v v' v'' : Visible) (c : Call) (a b : Told) → Step net v v' c a → Step net v v'' c b → SameAnswer a b v' v''
+AnswersDetermined = (net : Net) (v v' v'' : Visible) (c : Call) (a b : Result Told Cause) → Step net v v' c a → Step net v v'' c b → SameAnswer a b v' v''
 
 -- checks turn down what the tables have no place for
 pub record WithinCapacity (net : Net) (h : List Event) (v : Visible) : Type 0 where
@@ -108,8 +110,8 @@ pub record RecordsAgree (net : Net) (h : List Event) (v : Visible) : Type 0 wher
   pub last : v.last ≡ length (placed_in h)
   pub origin : (i : ℕ) → (v.records i).origin ≡ origin_in h i
   pub drafts : (i : ℕ) → (v.records i).drafts ≡ drafts_in h i
-  pub number : (i : ℕ) → number_in h i ≡ from_one (v.records i).number
-  pub place : (i : ℕ) → place_in h i ≡ from_one (v.records i).place
+  pub number : (i : ℕ) → number_in h i ≡ (v.records i).number
+  pub place : (i : ℕ) → place_in h i ≡ (v.records i).place
   pub placed : (x : ℕ) → In x (placed_in h) → (v.records x).phase ≡ Granted
   pub granted : (i : ℕ) → (v.records i).phase ≡ Granted → (drafts_in h i ≡ []) ⊎ In i (placed_in h)
 

@@ -1,12 +1,13 @@
 -- What a history tells. A history has each call with what it told, the newest first.
-use Rattle.std.specs.Prelude.{◌≡◌, ℕ, zero, suc, ◌<◌, ◌≤◌, Bool, true, false, cond, ◌⊎◌, List, [], ◌∷◌, ◌++◌, length, Some, None, Option, ◌==◌, nat_eq}
+use Rattle.std.specs.Prelude.{◌≡◌, ℕ, suc, ◌<◌, ◌≤◌, Bool, true, false, cond, ◌⊎◌, List, [], ◌∷◌, ◌++◌, length, Some, None, Ok, Err, Option, Result, ◌==◌, nat_eq}
 use Rattle.clocks.specs.declared.Content.{Content}
 use Rattle.clocks.specs.declared.Version.{Version}
 use Rattle.messages.specs.declared.Draft.{Draft}
 use Rattle.tables.specs.declared.Call.{Call}
 use Rattle.tables.specs.declared.Call.TheVariants.{Begin, Read, Draft as DraftCall, Close, Drop as DropCall, Deliver}
+use Rattle.faults.specs.declared.Cause.{Cause}
 use Rattle.tables.specs.declared.Told.{Told}
-use Rattle.tables.specs.declared.Told.TheVariants.{Begun, Own, Sent, Drafts, ReadOnly, Dropped as ToldDropped, Queried, Shown, Prepared, Awaiting, Placed, Refused as ToldRefused, Ended, Fault}
+use Rattle.tables.specs.declared.Told.TheVariants.{Begun, Own, Sent, Drafts, ReadOnly, Dropped as ToldDropped, Queried, Shown, Prepared, Awaiting, Placed, Refused as ToldRefused, Ended}
 use Rattle.laws.specs.Lists.{In, tally}
 use Rattle.laws.specs.Net.{Clock, written}
 use Rattle.laws.specs.Words.{Event, redrafted}
@@ -19,21 +20,21 @@ pub data Note : Type 0 where
   is_other : Note
   is_fault : Note
 
-abbrev pub note : Told → Note
-note (Begun i) = is_begun i
-note (Own x) = is_other
-note (Sent n) = is_other
-note (Drafts n) = is_other
-note ReadOnly = is_other
-note (ToldDropped i) = is_other
-note (Queried i) = is_other
-note (Shown i k x) = is_shown i k x
-note (Prepared i n) = is_other
-note (Awaiting i) = is_other
-note (Placed i p) = is_placed i p
-note (ToldRefused i k) = is_other
-note (Ended i t) = is_other
-note (Fault f) = is_fault
+abbrev pub note : Result Told Cause → Note
+note (Ok (Begun i)) = is_begun i
+note (Ok (Own x)) = is_other
+note (Ok (Sent n)) = is_other
+note (Ok (Drafts n)) = is_other
+note (Ok ReadOnly) = is_other
+note (Ok (ToldDropped i)) = is_other
+note (Ok (Queried i)) = is_other
+note (Ok (Shown i k x)) = is_shown i k x
+note (Ok (Prepared i n)) = is_other
+note (Ok (Awaiting i)) = is_other
+note (Ok (Placed i p)) = is_placed i p
+note (Ok (ToldRefused i k)) = is_other
+note (Ok (Ended i t)) = is_other
+note (Err f) = is_fault
 
 -- a call that was not turned down
 abbrev pub obeyed : Note → Bool
@@ -156,11 +157,6 @@ place_of i (j ∷ js) = cond (j == i) (Some (suc (length js))) (place_of i js)
 
 abbrev pub place_in : List Event → ℕ → Option ℕ
 place_in h i = place_of i (placed_in h)
-
--- a count from 1, where 0 stands for none
-abbrev pub from_one : ℕ → Option ℕ
-from_one zero = None
-from_one (suc n) = Some (suc n)
 
 -- a transaction is within a bound, or outside it: it has no number, or one above the entry of its origin
 abbrev pub Within : List Event → ℕ → Clock → Type 0

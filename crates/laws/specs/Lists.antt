@@ -1,5 +1,6 @@
 -- Lists and maps, as the protocol needs them.
 use Rattle.std.specs.Prelude.{◌≡◌, ℕ, zero, suc, ◌+◌, Bool, cond, ◌⊎◌, List, [], ◌∷◌, Some, None, Option, ◌==◌}
+use Rattle.std.specs.Option.{option_or}
 
 -- a map, changed at one place
 unfoldable pub put : {A : Type 0} → (ℕ → A) → ℕ → A → ℕ → A
@@ -27,22 +28,7 @@ abbrev pub tally : {A : Type 0} → (A → Bool) → List A → ℕ
 tally p [] = 0
 tally p (x ∷ xs) = cond (p x) 1 0 + tally p xs
 
--- those that pass
-abbrev pub those : {A : Type 0} → (A → Bool) → List A → List A
-those p [] = []
-those p (x ∷ xs) = cond (p x) (x ∷ those p xs) (those p xs)
-
--- the second, where the first is none
-abbrev pub either : {A : Type 0} → Option A → Option A → Option A
-either (Some a) o = Some a
-either None o = o
-
 -- the last element that passes
 abbrev pub last_of : {A : Type 0} → (A → Bool) → List A → Option A
 last_of p [] = None
-last_of p (x ∷ xs) = either (last_of p xs) (cond (p x) (Some x) None)
-
--- the first element that passes
-abbrev pub first_of : {A : Type 0} → (A → Bool) → List A → Option A
-first_of p [] = None
-first_of p (x ∷ xs) = cond (p x) (Some x) (first_of p xs)
+last_of p (x ∷ xs) = option_or (last_of p xs) (cond (p x) (Some x) None)

@@ -22,9 +22,9 @@ pub record Record : Type 0 where
   pub awaited : ℕ
   -- the first vote against that was delivered
   pub named : Option Objection
-  -- its count at its origin, and its place among all that were granted with drafts; 0 for none
-  pub number : ℕ
-  pub place : ℕ
+  -- its count at its origin, and its place among all that were granted with drafts
+  pub number : Option ℕ
+  pub place : Option ℕ
 
 -- what a message says
 pub data Body : Type 0 where

@@ -1,6 +1,7 @@
 -- What each call does to what the towers, the tables and the air hold.
-use Rattle.std.specs.Prelude.{◌≡◌, ℕ, suc, pred, ◌<◌, ◌≤◌, Bool, cond, not, ◌≢◌, List, [], ◌∷◌, ◌++◌, length, Some, None, Option}
-use Rattle.laws.specs.Lists.{put, At, either}
+use Rattle.std.specs.Prelude.{◌≡◌, ℕ, suc, pred, ◌<◌, ◌≤◌, Bool, cond, not, ◌≢◌, List, [], ◌∷◌, ◌++◌, length, Some, None, Ok, Err, Option, Result}
+use Rattle.std.specs.Option.{option_or}
+use Rattle.laws.specs.Lists.{put, At}
 use Rattle.laws.specs.Net.{Clock, query, answer, prepare, vote, granted, refused, Message, Net, ◌⊑◌, newest_within, content_of, writer_of}
 use Rattle.laws.specs.State.{Visible, amended, sent, removed, holding, took_in, read, placing, new, granted_record, placement}
 use Rattle.laws.specs.Faults.{first_fault}
@@ -15,7 +16,7 @@ use Rattle.tables.specs.declared.Phase.TheVariants.{Open, Waiting, Closing, Gran
 use Rattle.tables.specs.declared.Call.{Call}
 use Rattle.tables.specs.declared.Call.TheVariants.{Begin, Read, Draft as DraftCall, Close, Drop as DropCall, Deliver}
 use Rattle.tables.specs.declared.Told.{Told}
-use Rattle.tables.specs.declared.Told.TheVariants.{Begun, Own, Sent, Drafts, ReadOnly, Dropped as ToldDropped, Queried, Shown, Prepared, Awaiting, Placed, Refused as ToldRefused, Ended, Fault}
+use Rattle.tables.specs.declared.Told.TheVariants.{Begun, Own, Sent, Drafts, ReadOnly, Dropped as ToldDropped, Queried, Shown, Prepared, Awaiting, Placed, Refused as ToldRefused, Ended}
 
 module _ (net : Net) where
   -- ## The calls
@@ -53,7 +54,7 @@ module _ (net : Net) where
   abbrev pub counted : Visible → ℕ → Message → Option Objection → Visible
   counted v p m named =
       let r = v.records m.tx in
-      amended (removed v p) m.tx (voting Closing (pred r.awaited) (either r.named named) r)
+      amended (removed v p) m.tx (voting Closing (pred r.awaited) (option_or r.named named) r)
 
   -- .. the last vote, and none was a no
   abbrev pub granting : Visible → ℕ → Message → Visible
@@ -116,9 +117,9 @@ module _ (net : Net) where
         v' ≡ voted v p m (Some against) → Rule v v' (Deliver p) (Prepared m.tx (conflict_mark against.conflict))
     counts : (p : ℕ) (m : Message) (named : Option Objection) → Ripe v p m → m.body ≡ vote named → 1 < (v.records m.tx).awaited →
         v' ≡ counted v p m named → Rule v v' (Deliver p) (Awaiting m.tx)
-    grants : (p : ℕ) (m : Message) (named : Option Objection) → Ripe v p m → m.body ≡ vote named → (v.records m.tx).awaited ≡ 1 → either (v.records m.tx).named named ≡ None →
+    grants : (p : ℕ) (m : Message) (named : Option Objection) → Ripe v p m → m.body ≡ vote named → (v.records m.tx).awaited ≡ 1 → option_or (v.records m.tx).named named ≡ None →
         v' ≡ granting v p m → Rule v v' (Deliver p) (Placed m.tx (suc v.last))
-    refuses : (p : ℕ) (m : Message) (named : Option Objection) (against : Objection) → Ripe v p m → m.body ≡ vote named → (v.records m.tx).awaited ≡ 1 → either (v.records m.tx).named named ≡ Some against →
+    refuses : (p : ℕ) (m : Message) (named : Option Objection) (against : Objection) → Ripe v p m → m.body ≡ vote named → (v.records m.tx).awaited ≡ 1 → option_or (v.records m.tx).named named ≡ Some against →
         v' ≡ refusing v p m against → Rule v v' (Deliver p) (ToldRefused m.tx against.key)
     takes_in : (p : ℕ) (m : Message) (n : ℕ) (lines : List Draft) → Ripe v p m → m.body ≡ granted n lines → suc (v.clocks m.to m.from) ≡ n →
         v' ≡ took v p m n lines → Rule v v' (Deliver p) (Ended m.tx m.to)
@@ -127,11 +128,11 @@ module _ (net : Net) where
 
   -- ## A call is turned down, and nothing changes, or it is obeyed
 
-  pub data Step (v v' : Visible) (c : Call) : Told → Type 0 where
-    fails : (f : Cause) → first_fault net v c ≡ Some f → v' ≡ v → Step v v' c (Fault f)
-    obeys : {a : Told} → first_fault net v c ≡ None → Rule v v' c a → Step v v' c a
+  pub data Step (v v' : Visible) (c : Call) : Result Told Cause → Type 0 where
+    fails : (f : Cause) → first_fault net v c ≡ Some f → v' ≡ v → Step v v' c (Err f)
+    obeys : {a : Told} → first_fault net v c ≡ None → Rule v v' c a → Step v v' c (Ok a)
 
 -- the net after the calls of a history
 pub data Run (net : Net) : List Event → Visible → Type 0 where
   start : Run net [] new
-  then : {h : List Event} {v v' : Visible} {c : Call} {a : Told} → Run net h v → Step net v v' c a → Run net (record { call = c; told = a } ∷ h) v'
+  then : {h : List Event} {v v' : Visible} {c : Call} {a : Result Told Cause} → Run net h v → Step net v v' c a → Run net (record { call = c; told = a } ∷ h) v'

@@ -1,5 +1,5 @@
 -- What the towers, the tables, the book and the air hold, changed at one place.
-use Rattle.std.specs.Prelude.{ℕ, suc, List, [], ◌∷◌, ◌++◌, None}
+use Rattle.std.specs.Prelude.{ℕ, suc, List, [], ◌∷◌, ◌++◌, Some, None}
 use Rattle.clocks.specs.declared.Version.{Version}
 use Rattle.messages.specs.declared.Draft.{Draft}
 use Rattle.tables.specs.declared.Held.{Held}
@@ -53,7 +53,7 @@ new = record { begun = 0; last = 0; records = λ _. blank; clocks = λ _ _. 0; b
 abbrev pub granted_record : Visible → ℕ → Record
 granted_record v i =
     let r = v.records i in
-    record { origin = r.origin; phase = Granted; bound = r.bound; answered = r.answered; drafts = r.drafts; awaited = 0; named = None; number = suc (v.clocks r.origin r.origin); place = suc v.last }
+    record { origin = r.origin; phase = Granted; bound = r.bound; answered = r.answered; drafts = r.drafts; awaited = 0; named = None; number = Some (suc (v.clocks r.origin r.origin)); place = Some (suc v.last) }
 
 abbrev pub placement : Visible → ℕ → Placement
 placement v i = placed_as i (granted_record v i)

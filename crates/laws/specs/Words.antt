@@ -1,6 +1,6 @@
 -- Records and messages, as the calls change and send them.
-use Rattle.std.specs.Prelude.{ℕ, zero, suc, Bool, true, false, cond, not, ◌&&◌, List, [], ◌∷◌, ◌++◌, length, Some, None, Option, ◌==◌, nat_eq}
-use Rattle.laws.specs.Lists.{those, either, first_of}
+use Rattle.std.specs.Prelude.{ℕ, zero, suc, Bool, true, false, cond, not, ◌&&◌, List, [], ◌∷◌, ◌++◌, length, Some, None, filter, find, Option, Result, ◌==◌, nat_eq}
+use Rattle.std.specs.Option.{option_or, unwrap_or}
 use Rattle.laws.specs.Net.{Clock, Record, Body, prepare, granted, refused, Message, Placement, Net, inside, newest}
 use Rattle.clocks.specs.declared.Content.{Content}
 use Rattle.clocks.specs.declared.Version.{Version}
@@ -12,15 +12,16 @@ use Rattle.tables.specs.declared.Held.{Held}
 use Rattle.tables.specs.declared.Phase.{Phase}
 use Rattle.tables.specs.declared.Phase.TheVariants.{Open, Dropped}
 use Rattle.tables.specs.declared.Call.{Call}
+use Rattle.faults.specs.declared.Cause.{Cause}
 use Rattle.tables.specs.declared.Told.{Told}
 
 -- ## A record, changed at one place
 
 abbrev pub blank : Record
-blank = record { origin = 0; phase = Dropped; bound = λ _. 0; answered = false; drafts = []; awaited = 0; named = None; number = 0; place = 0 }
+blank = record { origin = 0; phase = Dropped; bound = λ _. 0; answered = false; drafts = []; awaited = 0; named = None; number = None; place = None }
 
 abbrev pub opened : ℕ → Clock → Record
-opened t c = record { origin = t; phase = Open; bound = c; answered = false; drafts = []; awaited = 0; named = None; number = 0; place = 0 }
+opened t c = record { origin = t; phase = Open; bound = c; answered = false; drafts = []; awaited = 0; named = None; number = None; place = None }
 
 abbrev pub in_phase : Phase → Record → Record
 in_phase p r = record { origin = r.origin; phase = p; bound = r.bound; answered = r.answered; drafts = r.drafts; awaited = r.awaited; named = r.named; number = r.number; place = r.place }
@@ -35,8 +36,9 @@ reading_at c r = record { origin = r.origin; phase = Open; bound = c; answered =
 abbrev pub voting : Phase → ℕ → Option Objection → Record → Record
 voting p a o r = record { origin = r.origin; phase = p; bound = r.bound; answered = r.answered; drafts = r.drafts; awaited = a; named = o; number = r.number; place = r.place }
 
+-- the transaction i, as its record says; one that is placed has a number
 abbrev pub placed_as : ℕ → Record → Placement
-placed_as i r = record { tx = i; origin = r.origin; number = r.number; bound = r.bound; drafts = r.drafts }
+placed_as i r = record { tx = i; origin = r.origin; number = unwrap_or r.number 0; bound = r.bound; drafts = r.drafts }
 
 -- ## What is sent
 
@@ -50,7 +52,7 @@ redrafted k v (d ∷ ds) = cond (d.key == k) (record { key = k; content = v } �
 
 -- the draft of a key
 abbrev pub draft_of : ℕ → List Draft → Option Draft
-draft_of k ds = first_of (λ d. nat_eq d.key k) ds
+draft_of k ds = find (λ d. nat_eq d.key k) ds
 
 abbrev pub unless_none : List Draft → Message → List Message
 unless_none [] m = []
@@ -78,8 +80,8 @@ another_holds i k h = h.key == k && not (h.tx == i)
 -- the lowest-numbered of the key's conflicts
 abbrev pub conflict_at : ℕ → List Held → List Version → Clock → ℕ → ℕ → Option Conflict
 conflict_at depth held versions bound i k =
-    either (held_conflict (first_of (another_holds i k) held))
-    (either (newer_conflict bound (newest versions))
+    option_or (held_conflict (find (another_holds i k) held))
+    (option_or (newer_conflict bound (newest versions))
     (cond (length versions == depth) (Some Full) None))
 
 abbrev pub objection_at : ℕ → Option Conflict → Option Objection
@@ -89,16 +91,16 @@ objection_at k None = None
 -- the first key of the lines that has a conflict, and the conflict
 abbrev pub first_objection : (ℕ → Option Conflict) → List Draft → Option Objection
 first_objection c [] = None
-first_objection c (d ∷ ds) = either (objection_at d.key (c d.key)) (first_objection c ds)
+first_objection c (d ∷ ds) = option_or (objection_at d.key (c d.key)) (first_objection c ds)
 
 module _ (net : Net) where
   -- the drafts whose keys live at tower t
   abbrev pub homed : ℕ → List Draft → List Draft
-  homed t ds = those (λ d. nat_eq (net.home d.key) t) ds
+  homed t ds = filter (λ d. nat_eq (net.home d.key) t) ds
 
   -- the keys of tower t that the transaction holds are let go
   abbrev pub freed : ℕ → ℕ → List Held → List Held
-  freed i t hs = those (λ h. not (h.tx == i && net.home h.key == t)) hs
+  freed i t hs = filter (λ h. not (h.tx == i && net.home h.key == t)) hs
 
   abbrev pub prepare_to : ℕ → Record → ℕ → Message
   prepare_to i r t = message i r.origin t r.bound (prepare (homed t r.drafts))
@@ -128,4 +130,4 @@ module _ (net : Net) where
 -- a history: each call with what it told, the newest first
 pub record Event : Type 0 where
   pub call : Call
-  pub told : Told
+  pub told : Result Told Cause

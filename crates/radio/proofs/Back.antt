@@ -19,9 +19,10 @@ use Rattle.frames.specs.Answers.{read_of}
 use Rattle.frames.proofs.Back.{back}
 use Rattle.laws.specs.Lists.{In}
 use Rattle.laws.specs.Net.{Clock, Body, query, answer, prepare, vote, granted, refused, Message, Net}
+use Rattle.laws.specs.View.{body_of}
 use Rattle.laws.specs.Frames.{FitConflict, FitNamed, FitBody, Fit}
 use Rattle.laws.proofs.Carry.{frames_carry}
-use Rattle.radio.specs.Air.{entries_of, sent_body, sent_as, heard_body, heard_as, FitsFrames, small, ReadsBack, AirOfFrames}
+use Rattle.radio.specs.Air.{entries_of, sent_body, sent_as, heard_as, FitsFrames, small, ReadsBack, AirOfFrames}
 
 -- the entries of a clock
 entries-length : (n : ℕ) (c : Clock) → length (entries_of n c) ≡ n
@@ -142,14 +143,14 @@ module _ (net : Net) (fits : FitsFrames net) where
         (and_from (ltb m.tx transaction_limit) (fit_body (sent_body m.body)) (lt-ltb m.tx transaction_limit (omega (arith, h.tx, fits.transactions))) (fit_sent m.body h.body)));
   }
 
-  heard_body_lem : (b : Body) → heard_body (sent_body b) ≡ b
-  heard_body_lem (query k first) = refl
-  heard_body_lem (answer k shown) = refl
-  heard_body_lem (prepare ls) = ap prepare (counted_of ls)
-  heard_body_lem (vote None) = refl
-  heard_body_lem (vote (Some a)) = refl
-  heard_body_lem (granted n ls) = ap (granted n) (counted_of ls)
-  heard_body_lem refused = refl
+  body_back : (b : Body) → body_of (sent_body b) ≡ b
+  body_back (query k first) = refl
+  body_back (answer k shown) = refl
+  body_back (prepare ls) = ap prepare (counted_of ls)
+  body_back (vote None) = refl
+  body_back (vote (Some a)) = refl
+  body_back (granted n ls) = ap (granted n) (counted_of ls)
+  body_back refused = refl
 
   heard_back : (m : Message) → Fit net small m → heard_as (read_of (frame_of (sent_as m))) ≡ Some m
   heard_back m h =
@@ -157,8 +158,8 @@ module _ (net : Net) (fits : FitsFrames net) where
       let same : clock ≡ m.bound = fun_ext (λ j. entries_at tower_limit m.bound (λ i l. h.bound.beyond i (omega (arith, fits.towers))) j) in
       let made : Clock → Body → Message = λ c b. record { tx = m.tx; from = m.from; to = m.to; bound = c; body = b } in
       ap heard_as (back (frame_of (sent_as m)) (sent_as m) (has_frame m h) refl)
-      ∙ ap (λ c. Some (made c (heard_body (sent_body m.body)))) same
-      ∙ ap (λ b. Some (made m.bound b)) (heard_body_lem m.body)
+      ∙ ap (λ c. Some (made c (body_of (sent_body m.body)))) same
+      ∙ ap (λ b. Some (made m.bound b)) (body_back m.body)
 
   radio : ReadsBack net
   radio = (record { frame_of = λ m. frame_of (sent_as m); read_of = λ bs. heard_as (read_of bs); back = heard_back }, λ m. refl, λ bs. refl)

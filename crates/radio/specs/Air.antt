@@ -1,10 +1,10 @@
 -- The messages of the rules as the frames that are in the air.
-use Rattle.std.specs.Prelude.{◌≡◌, ℕ, zero, suc, ◌^◌, ◌≤◌, Bool, List, [], ◌∷◌, Some, None, Ok, Err, Option, Result, nat_lt, slice_index}
+use Rattle.std.specs.Prelude.{◌≡◌, ℕ, zero, suc, ◌^◌, ◌≤◌, Bool, List, [], ◌∷◌, Some, None, Ok, Err, Option, Result, nat_lt}
 use Rattle.faults.specs.declared.Fault.{Fault}
 use Rattle.clocks.specs.Clocks.{tower_limit}
 use Rattle.clocks.specs.declared.Content.{Content}
 use Rattle.messages.specs.Limits.{line_limit, transaction_limit}
-use Rattle.messages.specs.Drafting.{counted, drafts_of}
+use Rattle.messages.specs.Drafting.{drafts_of}
 use Rattle.messages.specs.declared.Message.{Message as Sent}
 use Rattle.messages.specs.declared.Vote.TheVariants.{Yes, No}
 use Rattle.messages.specs.declared.Outcome.TheVariants.{Granted, Refused}
@@ -14,6 +14,7 @@ use Rattle.frames.specs.Layout.{frame_of}
 use Rattle.frames.specs.Answers.{read_of}
 use Rattle.laws.specs.Net.{Clock, Body, query, answer, prepare, vote, granted, refused, Message, Net}
 use Rattle.laws.specs.Words.{Event}
+use Rattle.laws.specs.View.{message_of}
 use Rattle.laws.specs.Frames.{Codec, Framed, CallsOk, RunF, Carried}
 
 -- the first n entries of a clock
@@ -35,17 +36,8 @@ abbrev pub sent_as : Message → Sent
 sent_as m = record { sender = m.from; receiver = m.to; tx = m.tx; clock = record { entries = entries_of tower_limit m.bound }; body = sent_body m.body }
 
 -- a message as it is understood
-abbrev pub heard_body : SentBody → Body
-heard_body (Query key first) = query key first
-heard_body (Answer key shown) = answer key shown
-heard_body (Prepare drafts) = prepare (counted drafts)
-heard_body (Voted Yes) = vote None
-heard_body (Voted (No against)) = vote (Some against)
-heard_body (Decided (Granted number drafts)) = granted number (counted drafts)
-heard_body (Decided Refused) = refused
-
 abbrev pub heard_as : Result Sent Fault → Option Message
-heard_as (Ok m) = Some (record { tx = m.tx; from = m.sender; to = m.receiver; bound = λ j. slice_index m.clock.entries j; body = heard_body m.body })
+heard_as (Ok m) = Some (message_of m)
 heard_as (Err f) = None
 
 -- a net whose numbers fit the fields of a frame

@@ -4,8 +4,7 @@
 ghost use Rattle.radio.specs.Air.{AirOfFrames};
 
 // Every frame in the air of a run is the one frame of a message and reads back as that message, and the laws hold.
-pub fn air_of_frames() -> u8
+#[tactic(auto, using(crate::proofs::Back::air_of_frames))]
+pub fn air_of_frames()
     ensures { AirOfFrames }
-{
-    0
-}
+{}

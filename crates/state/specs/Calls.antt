@@ -25,7 +25,7 @@ use Rattle.state.specs.State.{State, Answer, refuse, tells, where_fitting, has_p
 -- ## A record, changed at one place
 
 abbrev pub new_record : ℕ → Clock → Record
-new_record tower clock = record { origin = tower; phase = Open; bound = clock; answered = false; drafts = drafts_of []; awaited = 0; named = None; number = 0; place = 0 }
+new_record tower clock = record { origin = tower; phase = Open; bound = clock; answered = false; drafts = drafts_of []; awaited = 0; named = None; number = None; place = None }
 
 abbrev pub in_phase : Phase → Record → Record
 in_phase p r = record { origin = r.origin; phase = p; bound = r.bound; answered = r.answered; drafts = r.drafts; awaited = r.awaited; named = r.named; number = r.number; place = r.place }

@@ -1,5 +1,6 @@
 -- What a home has against the lines of a prepare.
-use Rattle.std.specs.Prelude.{ℕ, ◌-◌, Bool, true, cond, ◌&&◌, List, [], ◌∷◌, length, Some, None, Option, nat_le, nat_lt}
+use Rattle.std.specs.Prelude.{ℕ, ◌-◌, Bool, true, cond, ◌&&◌, List, [], ◌∷◌, length, Some, None, find, Option, nat_le, nat_lt}
+use Rattle.std.specs.Option.{option_or}
 use Rattle.std.specs.List.{slice_get}
 use Rattle.clocks.specs.declared.Clock.{Clock}
 use Rattle.clocks.specs.declared.Version.{Version}
@@ -10,7 +11,6 @@ use Rattle.messages.specs.declared.Conflict.{Conflict}
 use Rattle.messages.specs.declared.Conflict.TheVariants.{Newer, Full}
 use Rattle.messages.specs.declared.Objection.{Objection}
 use Rattle.tables.specs.declared.Held.{Held}
-use Rattle.laws.specs.Lists.{either, first_of}
 use Rattle.laws.specs.Words.{another_holds, held_conflict, first_objection}
 
 -- the newest of a key's versions
@@ -27,8 +27,8 @@ full_conflict atDepth = cond atDepth (Some Full) None
 -- the lowest-numbered of the key's conflicts: another transaction holds it; its newest version is not within the bound; it has its full depth
 abbrev pub conflict_at : List Held → Kept → ℕ → Clock → ℕ → Option Conflict
 conflict_at held book tx bound key =
-    either (held_conflict (first_of (another_holds tx key) held))
-    (either (newer_conflict bound (last_of (book.lists key)))
+    option_or (held_conflict (find (another_holds tx key) held))
+    (option_or (newer_conflict bound (last_of (book.lists key)))
     (full_conflict (nat_le book.depth (length (book.lists key)))))
 
 -- the first of the lines' keys that has a conflict, and the conflict

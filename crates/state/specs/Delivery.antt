@@ -1,5 +1,6 @@
 -- What the delivery of a message answers, and the state then.
 use Rattle.std.specs.Prelude.{ℕ, ◌+◌, ◌-◌, ◌^◌, Bool, true, cond, ◌&&◌, List, [], ◌∷◌, ◌++◌, length, Some, None, Ok, Err, Option, Result, ◌==◌, nat_le, nat_lt, slice_index}
+use Rattle.std.specs.Option.{option_or}
 use Rattle.std.specs.List.{remove, slice_get}
 use Rattle.faults.specs.declared.Fault.{Fault}
 use Rattle.faults.specs.declared.Cause.TheVariants.{Air as NoAir, Message as NoMessage, Early, List as ListFull}
@@ -23,7 +24,6 @@ use Rattle.tables.specs.declared.Phase.{Phase}
 use Rattle.tables.specs.declared.Phase.TheVariants.{Open, Waiting, Closing, Granted, Refused, Dropped}
 use Rattle.tables.specs.declared.Told.{Told}
 use Rattle.tables.specs.declared.Told.TheVariants.{Queried, Shown, Prepared, Awaiting, Placed, Refused as ToldRefused, Ended}
-use Rattle.laws.specs.Lists.{either}
 use Rattle.laws.specs.Net.{content_of, writer_of}
 use Rattle.laws.specs.Words.{holds_of}
 use Rattle.state.specs.declared.Record.{Record}
@@ -145,7 +145,7 @@ abbrev pub own_count : State → Record → ℕ
 own_count s r = slice_index (tower_at s.net r.origin).clock.entries r.origin
 
 abbrev pub granted_record : ℕ → ℕ → Record → Record
-granted_record number place r = record { origin = r.origin; phase = Granted; bound = r.bound; answered = r.answered; drafts = r.drafts; awaited = 0; named = None; number = number; place = place }
+granted_record number place r = record { origin = r.origin; phase = Granted; bound = r.bound; answered = r.answered; drafts = r.drafts; awaited = 0; named = None; number = Some number; place = Some place }
 
 abbrev pub granted_state : State → ℕ → ℕ → Record → ℕ → List Frame → State
 granted_state s at tx r number fs = record {
@@ -219,7 +219,7 @@ abbrev pub on_body : State → ℕ → Message → Record → Body → Answer
 on_body s at m r (Query key first) = queried s at m key first
 on_body s at m r (AnswerBody key shown) = shown_to s at m r key shown
 on_body s at m r (PrepareBody drafts) = voted s at m (counted drafts)
-on_body s at m r (VoteBody vote) = counting s at m.tx r (either r.named (objection_of vote))
+on_body s at m r (VoteBody vote) = counting s at m.tx r (option_or r.named (objection_of vote))
 on_body s at m r (OutcomeBody (GrantedOutcome number drafts)) = taken_in s at m number (counted drafts)
 on_body s at m r (OutcomeBody RefusedOutcome) = released s at m
 

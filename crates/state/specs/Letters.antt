@@ -1,5 +1,5 @@
 -- What a transaction sends to several towers, and the frames of it.
-use Rattle.std.specs.Prelude.{ℕ, zero, suc, cond, List, [], length, take, Some, None, Ok, Err, Option, Result, ◌==◌, nat_eq}
+use Rattle.std.specs.Prelude.{ℕ, zero, suc, cond, List, [], length, take, Some, None, Ok, Err, filter, Option, Result, ◌==◌, nat_eq}
 use Rattle.faults.specs.declared.Fault.{Fault}
 use Rattle.tray.specs.Contents.{pushed}
 use Rattle.messages.specs.Drafting.{counted, drafts_of}
@@ -10,7 +10,6 @@ use Rattle.messages.specs.declared.Body.TheVariants.{Prepare as PrepareBody, Out
 use Rattle.messages.specs.declared.Outcome.TheVariants.{Granted, Refused}
 use Rattle.frames.specs.Answers.{written}
 use Rattle.frames.specs.declared.hold.Frame.{Frame}
-use Rattle.laws.specs.Lists.{those}
 use Rattle.state.specs.State.{home_of}
 use Rattle.state.specs.declared.Record.{Record}
 use Rattle.state.specs.declared.Batch.{Batch}
@@ -19,7 +18,7 @@ use Rattle.state.specs.declared.Purpose.TheVariants.{Prepare, Grant, Refuse}
 
 -- the drafts whose keys have their home at the tower
 abbrev pub homed : List ℕ → ℕ → List Draft → List Draft
-homed homes tower ds = those (λ d. nat_eq (home_of homes d.key) tower) ds
+homed homes tower ds = filter (λ d. nat_eq (home_of homes d.key) tower) ds
 
 abbrev pub letter : ℕ → Record → ℕ → Body → Message
 letter tx r tower body = record { sender = r.origin; receiver = tower; tx = tx; clock = r.bound; body = body }

@@ -2,6 +2,7 @@
 use Rattle.std.specs.Prelude.{ℕ, ◌-◌, Bool, true, cond, ◌&&◌, List, [], ◌∷◌, ◌++◌, length, replicate, Ok, Err, Result, nat_le, nat_lt}
 use Rattle.faults.specs.Table.{plain}
 use Rattle.faults.specs.declared.Fault.{Fault}
+use Rattle.faults.specs.declared.Cause.{Cause}
 use Rattle.faults.specs.declared.Cause.TheVariants.{Opening}
 use Rattle.clocks.specs.Clocks.{tower_limit}
 use Rattle.book.specs.Books.{blank_kept}
@@ -9,7 +10,6 @@ use Rattle.book.specs.Limits.{key_limit}
 use Rattle.tables.specs.declared.Call.{Call}
 use Rattle.tables.specs.declared.Call.TheVariants.{Begin, Read, Draft, Close, Drop, Deliver}
 use Rattle.tables.specs.declared.Told.{Told}
-use Rattle.tables.specs.declared.Told.TheVariants.{Fault as ToldFault}
 use Rattle.state.specs.declared.Tower.{Tower}
 use Rattle.state.specs.declared.Inner.{Inner}
 use Rattle.state.specs.State.{State, Answer, holding, fitting}
@@ -56,6 +56,6 @@ called s (Drop tx) = dropped s tx
 called s (Deliver position) = delivered s position
 
 -- what stands in the list of what was told
-abbrev pub told_of : Result Told Fault → Told
-told_of (Ok told) = told
-told_of (Err f) = ToldFault f.cause
+abbrev pub told_of : Result Told Fault → Result Told Cause
+told_of (Ok told) = Ok told
+told_of (Err f) = Err f.cause

@@ -5,7 +5,6 @@ use Rattle.clocks.specs.declared.Version.{Version}
 use Rattle.messages.specs.declared.Draft.{Draft}
 use Rattle.tables.specs.declared.Held.{Held}
 use Rattle.state.specs.declared.Stamp.{Stamp}
-use Rattle.state.specs.declared.Elsewhere.{Elsewhere}
 use Rattle.state.specs.declared.Tower.{Tower}
 use Rattle.state.specs.declared.Inner.{Inner}
 use Rattle.state.specs.State.{State, Table, holding, tower_at, home_of}
@@ -40,10 +39,10 @@ with_clock n tower origin number = record { towers = slice_set n.towers tower (c
 abbrev pub with_last : Inner → ℕ → Inner
 with_last n place = record { towers = n.towers; count = n.count; homes = n.homes; keys = n.keys; last = place }
 
--- held for another transaction, or at another home
-abbrev pub stays : Elsewhere → Held → Bool
-stays p h = not (h.tx == p.tx && home_of p.homes h.key == p.tower)
+-- held for another transaction than tx, or at another home than the tower
+abbrev pub stays : ℕ → ℕ → List ℕ → Held → Bool
+stays tx tower homes h = not (h.tx == tx && home_of homes h.key == tower)
 
 -- what is held when a tower has let go what it held for a transaction
 abbrev pub let_go : State → ℕ → ℕ → Table Held
-let_go s tx tower = holding s.held (filter (stays (record { tx = tx; tower = tower; homes = s.net.homes })) s.held.items)
+let_go s tx tower = holding s.held (filter (stays tx tower s.net.homes) s.held.items)

@@ -14,8 +14,8 @@ pub const MAX_FRAMES: usize = 512;
 pub const MAX_READINGS: usize = 4096;
 
 // A transaction: the tower where it began, where it stands, what it may see, whether it has had an answer, what it wants to write,
-// how many votes it awaits, the first vote against it that was delivered, its count at its origin, and its place among all
-// that were granted with drafts; the last two are 0 while it has none.
+// how many votes it awaits, the first vote against it that was delivered, and, once it is granted with drafts, its count at its
+// origin and its place among all that were.
 #[derive(Clone, Copy)]
 pub struct Record {
     pub origin: u8,
@@ -25,8 +25,8 @@ pub struct Record {
     pub drafts: Drafts,
     pub awaited: u8,
     pub named: Option<Objection>,
-    pub number: u32,
-    pub place: u32,
+    pub number: Option<u32>,
+    pub place: Option<u32>,
 }
 
 // A tower. Its clock counts the transactions that it has taken in, by their origin.
@@ -36,6 +36,7 @@ pub struct Tower {
 }
 
 // The towers, of which the first `count` belong to the net; the home of each key, of which the first `keys` are there; the last place.
+// The arrays are fixed, and have counts beside them, as a net takes no memory from a heap.
 #[derive(Clone, Copy)]
 pub struct Inner {
     pub towers: [Tower; TOWERS],
@@ -54,7 +55,7 @@ pub struct Tables<'a> {
     pub readings: Tray<'a, Reading>,
 }
 
-// Frames that are sent together, of which the first `len` count.
+// Frames that are sent together, of which the first `len` count. The array is fixed, as a call takes no memory from a heap.
 #[derive(Clone, Copy)]
 pub struct Batch {
     pub frames: [Frame; TOWERS],
@@ -75,12 +76,4 @@ pub struct Stamp {
     pub writer: u16,
     pub origin: u8,
     pub number: u32,
-}
-
-// Passes what is held for another transaction, or at another home.
-#[derive(Clone, Copy)]
-pub struct Elsewhere {
-    pub tx: u16,
-    pub tower: u8,
-    pub homes: [u8; MAX_KEYS],
 }

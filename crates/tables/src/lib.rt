@@ -43,7 +43,7 @@ pub enum Call {
     Deliver { position: u32 },
 }
 
-// What a call tells.
+// What a call tells that is not turned down.
 #[derive(Clone, Copy)]
 pub enum Told {
     // begin: the transaction
@@ -78,9 +78,10 @@ pub enum Told {
         key: u8,
         content: Option<Content>,
     },
-    // a prepare was delivered; the mark of the vote that was sent: 0 for yes, else the conflict's
+    // a prepare was delivered, and a vote was sent
     Prepared {
         tx: u16,
+        // 0 for yes, else the conflict's mark: a number of the format, told as it stands in the frame and in the listing
         mark: u8,
     },
     // a vote was delivered, and others are awaited
@@ -102,8 +103,7 @@ pub enum Told {
         tx: u16,
         tower: u8,
     },
-    // the call was turned down, and nothing changed
-    Fault {
-        cause: Cause,
-    },
 }
+
+// What any call tells. One that is turned down tells the cause, and changes nothing.
+pub type Answer = Result<Told, Cause>;
