@@ -10,13 +10,10 @@ impl Shape {
     pub fn new(keys: usize, depth: usize, places: usize) -> Result<Shape, Fault>
         ensures { Shaped keys depth places result }
     {
-        if keys == 0 || keys > MAX_KEYS {
-            return Err(Fault::plain(Cause::Shape));
-        }
-        if depth == 0 || depth > MAX_DEPTH {
-            return Err(Fault::plain(Cause::Shape));
-        }
-        if places != keys * depth {
+        let fits = (1..=MAX_KEYS).contains(&keys)
+            && (1..=MAX_DEPTH).contains(&depth)
+            && places == keys * depth;
+        if !fits {
             return Err(Fault::plain(Cause::Shape));
         }
         Ok(Shape { keys, depth })
