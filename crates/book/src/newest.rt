@@ -2,7 +2,7 @@ ghost use Rattle.std.specs.Prelude.{◌≡◌};
 ghost use Rattle.book.specs.Examples.{NewestExamples, example_answers};
 ghost use Rattle.book.specs.Newest.{newest, LastWithin};
 
-use clocks::{Clock, Content, TOWERS, Version};
+use clocks::{Clock, Content, Version};
 
 // What the list shows at the bound: its last version within the bound, or none, which is called blank.
 pub fn newest_of(versions: &[Version], bound: &Clock) -> Option<Version>
@@ -36,9 +36,7 @@ pub fn newest_examples() -> [Option<Version>; 3]
     let both = Clock {
         entries: [1, 1, 0, 0, 0, 0, 0, 0],
     };
-    let none = Clock {
-        entries: [0; TOWERS],
-    };
+    let none = Clock::default();
     [
         newest_of(&list, &first),
         newest_of(&list, &both),

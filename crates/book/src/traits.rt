@@ -48,7 +48,7 @@ pub trait BookView {
         ensures { result ≡ at_key (kept self.now) key (found (slice_get ((kept self.now).lists key) index)) }
     {
         known(key, self.keys())?;
-        self.list_get(key, index).ok_or(Fault::plain(Cause::Index))
+        self.list_get(key, index).ok_or(Cause::Index.into())
     }
 
     // What the key shows at the bound: the last version of its list that is within it, or none, which is called blank.
@@ -74,7 +74,7 @@ pub trait Book: BookView {
         if self.count(key)? < self.depth() {
             Ok(())
         } else {
-            Err(Fault::plain(Cause::Depth))
+            Err(Cause::Depth.into())
         }
     }
 }
@@ -86,6 +86,6 @@ fn known(key: usize, keys: usize) -> Result<(), Fault>
     if key < keys {
         Ok(())
     } else {
-        Err(Fault::plain(Cause::BookKey))
+        Err(Cause::BookKey.into())
     }
 }

@@ -14,7 +14,7 @@ impl Shape {
             && (1..=MAX_DEPTH).contains(&depth)
             && places == keys * depth;
         if !fits {
-            return Err(Fault::plain(Cause::Shape));
+            return Err(Cause::Shape.into());
         }
         Ok(Shape { keys, depth })
     }

@@ -20,7 +20,7 @@ impl<'a> Rows<'a> {
         ensures { RowsShaped keys depth (length counts.now) (length versions.now) result }
     {
         if counts.len() != keys {
-            return Err(Fault::plain(Cause::Shape));
+            return Err(Cause::Shape.into());
         }
         Shape::new(keys, depth, versions.len())
     }
