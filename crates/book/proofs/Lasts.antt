@@ -1,13 +1,15 @@
 -- The fold over a list ends with its last version within the bound.
-use Rattle.std.proofs.Common.{◌≡◌, ℕ, ◌+◌, true, false, cond, ltb, leb, List, [], ◌∷◌, ◌++◌, length, get_or, take, drop, Some, None, fold, Option, sym, refl, ap, ◌∙◌, subst, inl, inr, arith}
-use Rattle.std.proofs.lemmas.List.{append_assoc, take-append-drop, drop_more, get_or-drop, length-drop}
-use Rattle.std.proofs.ByRecursion.{All-from_get_or}
+use Rattle.std.proofs.Common.{◌≡◌, ◌⊎◌, Bool, reverse, true, false, true≢false, cond, ltb, leb, List, [], ◌∷◌, ◌++◌, length, get_or, Some, None, fold, Option, sym, refl, ap, ◌∙◌, subst, inl, inr}
+use Rattle.std.proofs.lemmas.List.{append_assoc, reverse-append}
+use Rattle.std.proofs.lemmas.List.Folds.{find-append}
+use Rattle.std.proofs.lemmas.Iterator.Adapters.{option_map_id}
 use Rattle.std.proofs.lemmas.List.Sums.{fold_push}
 use Rattle.std.proofs.lemmas.Bool.{and_parts, and_from, ltb-true, lt-ltb, leb-true, le-leb, cases_Bool}
-use Rattle.std.specs.List.{AllByRecursion}
+use Rattle.std.specs.List.{AllByRecursion, find}
+use Rattle.std.specs.Option.{option_or, option_map}
 use Rattle.clocks.specs.declared.Clock.{Clock}
 use Rattle.clocks.specs.declared.Version.{Version}
-use Rattle.book.specs.Newest.{Inside, inside, newest, LastPlace, LastWithin}
+use Rattle.book.specs.Newest.{Inside, inside, newest, LastWithin}
 
 pub inside-true : (b : Clock) (v : Version) → inside b v ≡ true → Inside b v
 inside-true b v e =
@@ -30,11 +32,6 @@ kept_best b [] o h = refl
 kept_best b (v ∷ vs) o h =
     ap (λ t. fold (λ best w. cond (inside b w) (Some w) best) (cond t (Some v) o) vs) (not_inside b v h.0) ∙ kept_best b vs o h.1
 
--- the element at a place, if there is one
-abbrev pub at_place : List Version → Version → Option ℕ → Option Version
-at_place vs z None = None
-at_place vs z (Some i) = Some (get_or vs i z)
-
 -- the relation has one answer
 pub last-value : (b : Clock) (vs : List Version) (o : Option Version) → LastWithin b vs o → o ≡ newest b vs
 last-value b vs None h = sym (kept_best b vs None h)
@@ -47,13 +44,45 @@ last-value b vs (Some v) (before, after, e, here, rest) =
     folded_append [] ws o = refl
     folded_append (u ∷ us) ws o = folded_append us ws (cond (inside b u) (Some u) o)
 
--- what the place of the last version within the bound says of the list
-pub last_at : (b : Clock) (vs : List Version) (z : Version) (o : Option ℕ) → LastPlace (λ k. Inside b (get_or vs k z)) (length vs) o → LastWithin b vs (at_place vs z o)
-last_at b vs z None h = All-from_get_or (λ w. Inside b w → ⊥) vs z h
-last_at b vs z (Some i) (h, here, rest) = (
-  take i vs,
-  drop (i + 1) vs,
-  sym (take-append-drop i vs) ∙ ap (λ us. take i vs ++ us) (drop_more vs i z h),
-  here,
-  All-from_get_or (λ w. Inside b w → ⊥) (drop (i + 1) vs) z (λ k l. subst (λ (w : Version). Inside b w → ⊥) (sym (get_or-drop (i + 1) vs k z)) (rest (i + 1 + k) (omega arith) (let n = length-drop (i + 1) vs in omega arith))),
-)
+-- the fold over a list leaves what it began with, or ends with the last version within the bound
+last_or_none : (b : Clock) (vs : List Version) (o : Option Version)
+    → (AllByRecursion (λ w. Inside b w → ⊥) vs × (fold (λ best w. cond (inside b w) (Some w) best) o vs ≡ o))
+    ⊎ ((v : Version) × (fold (λ best w. cond (inside b w) (Some w) best) o vs ≡ Some v) × LastWithin b vs (Some v))
+last_or_none b [] o = inl (tt, refl)
+last_or_none b (v ∷ vs) o = elim (last_or_none b vs (cond (inside b v) (Some v) o)) [
+  | inl (none, e) ↦ elim (cases_Bool (inside b v)) [
+    | inl here ↦ inr (v, e ∙ ap (λ t. cond t (Some v) o) here, ([], vs, refl, inside-true b v here, none))
+    | inr out ↦ inl ((λ i. absurd (true≢false (sym (is_inside b v i) ∙ out)), none), e ∙ ap (λ t. cond t (Some v) o) out)
+  ]
+  | inr (w, e, (before, after, split, here, rest)) ↦ inr (w, e, (v ∷ before, after, ap (λ us. v ∷ us) split, here, rest))
+]
+
+-- the fold answers the relation
+pub newest_last : (b : Clock) (vs : List Version) → LastWithin b vs (newest b vs)
+newest_last b vs = elim (last_or_none b vs None) [
+  | inl (none, e) ↦ subst (λ (o : Option Version). LastWithin b vs o) (sym e) none
+  | inr (v, e, last) ↦ subst (λ (o : Option Version). LastWithin b vs o) (sym e) last
+]
+
+-- a search from the end finds what the fold ends with
+module _ {X Y : Type 0} (p : X → Bool) (f : X → Y) where
+  found_or : (xs : List X) (o : Option Y) → fold (λ best x. cond (p x) (Some (f x)) best) o xs ≡ option_or (option_map f (find p (reverse xs))) o
+  found_or [] o = refl
+  found_or (x ∷ xs) o =
+      found_or xs (cond (p x) (Some (f x)) o) ∙ before (find p (reverse xs)) (p x)
+      ∙ ap (λ m. option_or (option_map f m) o) (sym (ap (find p) (reverse-append (x ∷ []) xs) ∙ find-append p (reverse xs) (x ∷ [])))
+    where
+      before : (m : Option X) (t : Bool) → option_or (option_map f m) (cond t (Some (f x)) o) ≡ option_or (option_map f (option_or m (cond t (Some x) None))) o
+      before None true = refl
+      before None false = refl
+      before (Some y) t = refl
+
+  pub found_last : (xs : List X) → option_map f (find p (reverse xs)) ≡ fold (λ best x. cond (p x) (Some (f x)) best) None xs
+  found_last xs = sym (found_or xs None ∙ same (option_map f (find p (reverse xs))))
+    where
+      same : (o : Option Y) → option_or o None ≡ o
+      same None = refl
+      same (Some y) = refl
+
+pub newest_found : (b : Clock) (vs : List Version) → find (inside b) (reverse vs) ≡ newest b vs
+newest_found b vs = sym (option_map_id (find (inside b) (reverse vs))) ∙ found_last (inside b) (λ v. v) vs

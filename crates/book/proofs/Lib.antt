@@ -1,4 +1,3 @@
 pub mod Blanks
 pub mod Lasts
-pub mod Refusals
 pub mod Sames

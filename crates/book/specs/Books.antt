@@ -5,9 +5,8 @@ use Rattle.faults.specs.declared.Fault.{Fault}
 use Rattle.faults.specs.declared.Cause.TheVariants.{BookKey, Index, Depth}
 use Rattle.clocks.specs.declared.Clock.{Clock}
 use Rattle.clocks.specs.declared.Version.{Version}
-use Rattle.book.specs.declared.newest.Newest.{Newest}
 use Rattle.book.specs.declared.shape.Shape.{Shape}
-use Rattle.book.specs.Newest.{newest, LastWithin}
+use Rattle.book.specs.Newest.{LastWithin}
 
 -- for each key below `keys` a list of versions, oldest first, of at most `depth` each
 pub record Kept : Type 0 where
@@ -32,18 +31,19 @@ abbrev pub found : Option Version → Result Version Fault
 found (Some v) = Ok v
 found None = Err (plain Index)
 
--- what a list shows at a bound
-abbrev pub shown : Clock → List Version → Newest
-shown b vs = record { version = newest b vs }
-
 -- an answer shows the last version within the bound
-abbrev pub Shows : Clock → List Version → Result Newest Fault → Type 0
-Shows b vs (Ok n) = LastWithin b vs n.version
+abbrev pub Shows : Clock → List Version → Result (Option Version) Fault → Type 0
+Shows b vs (Ok o) = LastWithin b vs o
 Shows b vs (Err f) = Unit {0}
 
 -- why nothing can be added under the key, if so
 abbrev pub refusal : Kept → ℕ → Option Fault
 refusal s key = cond (nat_lt key s.keys) (cond (nat_lt (length (s.lists key)) s.depth) None (Some (plain Depth))) (Some (plain BookKey))
+
+-- the answer that is done, or the refusal where there is one
+abbrev pub unless : Option Fault → Result (Unit {0}) Fault
+unless None = Ok tt
+unless (Some f) = Err f
 
 -- the lists with one more version at the end of the key's
 abbrev pub with_one : (ℕ → List Version) → ℕ → Version → ℕ → List Version

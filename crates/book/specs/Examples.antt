@@ -1,9 +1,8 @@
 -- What a list of two versions shows at three bounds.
-use Rattle.std.specs.Prelude.{ℕ, ◌-◌, List, [], ◌∷◌, replicate, Some, None}
+use Rattle.std.specs.Prelude.{ℕ, ◌-◌, List, [], ◌∷◌, replicate, Some, None, Option}
 use Rattle.clocks.specs.Clocks.{tower_limit}
 use Rattle.clocks.specs.declared.Clock.{Clock}
 use Rattle.clocks.specs.declared.Version.{Version}
-use Rattle.book.specs.declared.newest.Newest.{Newest}
 use Rattle.book.specs.Newest.{LastWithin}
 
 -- the clock whose first two entries are given, and whose others are 0
@@ -26,5 +25,5 @@ NewestExamples =
     LastWithin (two_entries 1 0) example_list (Some older) × LastWithin (two_entries 1 1) example_list (Some newer)
     × LastWithin (two_entries 0 0) example_list None
 
-abbrev pub example_answers : List Newest
-example_answers = record { version = Some older } ∷ record { version = Some newer } ∷ record { version = None } ∷ []
+abbrev pub example_answers : List (Option Version)
+example_answers = Some older ∷ Some newer ∷ None ∷ []

@@ -1,5 +1,5 @@
 -- What a list of versions shows at a bound.
-use Rattle.std.specs.Prelude.{◌≡◌, ℕ, ◌<◌, Bool, cond, List, ◌∷◌, ◌++◌, Some, None, fold, Option}
+use Rattle.std.specs.Prelude.{◌≡◌, Bool, cond, List, ◌∷◌, ◌++◌, Some, None, fold, Option}
 use Rattle.std.specs.List.{AllByRecursion}
 use Rattle.clocks.specs.Clocks.{Within, within}
 use Rattle.clocks.specs.declared.Clock.{Clock}
@@ -12,15 +12,6 @@ Inside b v = Within v.origin v.number b.entries
 -- the same as a test
 abbrev pub inside : Clock → Version → Bool
 inside b v = within v.origin v.number b.entries
-
--- what stands for a version where a list has none
-abbrev pub no_version : Version
-no_version = record { writer = 0; origin = 0; number = 0; content = record { value = 0 } }
-
--- the last place below n of which P holds, if there is one
-abbrev pub LastPlace : (ℕ → Type 0) → ℕ → Option ℕ → Type 0
-LastPlace P n (Some i) = (i < n) × P i × ((k : ℕ) → i < k → k < n → P k → ⊥)
-LastPlace P n None = (k : ℕ) → k < n → P k → ⊥
 
 -- the last version of the list that is within the bound, if there is one
 abbrev pub newest : Clock → List Version → Option Version

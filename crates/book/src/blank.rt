@@ -8,10 +8,5 @@ pub fn is_blank<B: BookView>(book: &B) -> bool
     ensures rule { MatchBool result (Blank (B.BookView.kept book.now)) (Blank (B.BookView.kept book.now) → ⊥) }
     ensures value { result ≡ blank_kept (B.BookView.kept book.now) }
 {
-    for key in 0..book.keys() {
-        if book.count(key).unwrap_or(0) > 0 {
-            return false;
-        }
-    }
-    true
+    (0..book.keys()).all(|key| book.list_len(key) == 0)
 }

@@ -7,6 +7,6 @@ mod shape;
 mod traits;
 
 pub use blank::is_blank;
-pub use newest::{Newest, newest_examples, newest_of};
+pub use newest::{newest_examples, newest_of};
 pub use shape::{MAX_DEPTH, MAX_KEYS, Shape};
 pub use traits::{Book, BookView};

@@ -4,7 +4,7 @@
 #[cfg(test)]
 mod tests {
     use book::{Book, BookView, Shape, is_blank};
-    use clocks::{Clock, Content, TOWERS, Version};
+    use clocks::{Clock, Content, Version};
     use faults::Fault;
     use journal::{Journal, Record};
     use rows::Rows;
@@ -28,29 +28,20 @@ mod tests {
 
     // The clock whose first two entries are given.
     fn bound(first: u32, second: u32) -> Clock {
-        let mut entries = [0; TOWERS];
-        entries[0] = first;
-        entries[1] = second;
-        Clock { entries }
+        Clock {
+            entries: [first, second, 0, 0, 0, 0, 0, 0],
+        }
     }
 
     // The number of the fault, 0 where there is none.
     fn fault<T: Drop>(answer: Result<T, Fault>) -> u8 {
-        match answer {
-            Ok(_) => 0,
-            Err(fault) => fault.cause.number(),
-        }
+        answer.err().map_or(0, |fault| fault.cause.number())
     }
 
     // The value that key 1 shows at the bound.
     fn shown<B: Book>(book: &B, first: u32, second: u32) -> Option<u32> {
-        match book.newest_within(1, &bound(first, second)) {
-            Ok(newest) => match newest.version {
-                Some(version) => Some(version.content.value),
-                None => None,
-            },
-            Err(_) => None,
-        }
+        let newest = book.newest_within(1, &bound(first, second));
+        newest.ok().flatten().map(|version| version.content.value)
     }
 
     fn rules<B: Book>(rt: &impl Abort, book: &mut B) {
@@ -75,9 +66,7 @@ mod tests {
             key: 0,
             version: version(0, 0),
         }; PLACES];
-        let Ok(shape) = Shape::new(KEYS, DEPTH, PLACES) else {
-            return Err(Fail::new("shape"));
-        };
+        let shape = Shape::new(KEYS, DEPTH, PLACES).map_err(|_| Fail::new("shape"))?;
         let mut book = Journal::blank(shape, &mut memory);
         rules(&rt, &mut book);
         Ok(())
@@ -87,9 +76,7 @@ mod tests {
     fn rows_keep_the_rules(rt: HostRuntime) -> Result<(), Fail> {
         let mut counts = [1u8; KEYS];
         let mut versions = [version(0, 0); PLACES];
-        let Ok(shape) = Rows::shape(KEYS, DEPTH, &counts, &versions) else {
-            return Err(Fail::new("shape"));
-        };
+        let shape = Rows::shape(KEYS, DEPTH, &counts, &versions).map_err(|_| Fail::new("shape"))?;
         let mut book = Rows::blank(shape, &mut counts, &mut versions);
         rules(&rt, &mut book);
         Ok(())

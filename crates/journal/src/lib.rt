@@ -3,7 +3,6 @@
 
 mod journal;
 mod record;
-mod search;
 
 pub use journal::Journal;
 pub use record::Record;

@@ -1,7 +1,7 @@
 -- A row of `d` places for each of `n` keys, of which the first `min (get_or cs k 0) d` are taken.
-use Rattle.std.proofs.Common.{◌≡◌, ℕ, suc, ◌+◌, ◌-◌, ◌*◌, ◌<◌, ◌≤◌, min, cond, ltb, List, [], ◌∷◌, ◌++◌, length, get_or, take, drop, set, replicate, sym, refl, ap, ◌∙◌, subst, inl, inr, ⊎_elim, le_refl, mul-le-mul_right, suc-mul, arith}
-use Rattle.std.proofs.lemmas.List.{length-take, length-take-le, length-drop, length-replicate, get_or-replicate, get_or_past, get_or-set_same, get_or-set_other, drop-set-add, drop-set-lt, take_more_set, take-set-le}
-use Rattle.std.proofs.lemmas.Bool.{eq-eqb, ne_eqb, lt-ltb, le-ltb, cases_lt, cases_order}
+use Rattle.std.proofs.Common.{◌≡◌, ℕ, suc, ◌+◌, ◌-◌, ◌*◌, ◌<◌, ◌≤◌, min, cond, ltb, List, [], ◌∷◌, ◌++◌, length, get_or, take, drop, set, sym, refl, ap, ◌∙◌, subst, inl, inr, ⊎_elim, le_refl, mul-le-mul_right, suc-mul, arith}
+use Rattle.std.proofs.lemmas.List.{length-take-le, length-drop, get_or-set_same, get_or-set_other, drop-set-add, drop-set-lt, take_more_set, take-set-le}
+use Rattle.std.proofs.lemmas.Bool.{eq-eqb, ne_eqb, lt-ltb, cases_order}
 use Rattle.clocks.specs.declared.Version.{Version}
 use Rattle.book.specs.Books.{with_one}
 use Rattle.rows.specs.Places.{row_of}
@@ -17,15 +17,6 @@ module _ (cs : List ℕ) (vs : List Version) (n d : ℕ) where
 
   pub row-there : (k : ℕ) → k < n → row_of cs vs n d k ≡ places k
   row-there k h = ap (λ t. cond t (places k) []) (lt-ltb k n h)
-
-  pub row-none : (k : ℕ) → n ≤ k → row_of cs vs n d k ≡ []
-  row-none k h = ap (λ t. cond t (places k) []) (le-ltb k n h)
-
-  pub row-short : (k : ℕ) → length (row_of cs vs n d k) ≤ d
-  row-short k = elim (cases_lt k n) [
-    | inl less ↦ let e = ap length (row-there k less) in let t = length-take (min (get_or cs k 0) d) (drop (k * d) vs) in omega arith
-    | inr more ↦ let e = ap length (row-none k more) in omega arith
-  ]
 
   pub row-length : (k : ℕ) → k < n → n * d ≤ length vs → length (row_of cs vs n d k) ≡ min (get_or cs k 0) d
   row-length k h l =
@@ -83,18 +74,3 @@ module _ (cs : List ℕ) (vs : List Version) (n d key m : ℕ) (v : Version) (h 
         subst (λ (k : ℕ). row_of cs' vs' n d k ≡ with_one (row_of cs vs n d) key v k) (sym same) here
     | inr o ↦ ⊎_elim (λ less. others k (λ q. omega arith) (before-row k less)) (λ more. others k (λ q. omega arith) (after-row k more)) o
   ]
-
--- counts that are all 0
-zeros : (n k : ℕ) → get_or {A = ℕ} (replicate n 0) k 0 ≡ 0
-zeros n k = elim (cases_lt k n) [
-  | inl h ↦ get_or-replicate n k 0 0 h
-  | inr h ↦ let e = length-replicate {A = ℕ} n 0 in get_or_past (replicate n 0) k 0 (omega arith)
-]
-
-pub row-blank : (cs : List ℕ) (vs : List Version) (n d m : ℕ) → cs ≡ replicate m 0 → (k : ℕ) → row_of cs vs n d k ≡ []
-row-blank cs vs n d m e k = elim (cases_lt k n) [
-  | inl less ↦
-      let z : min (get_or cs k 0) d ≡ 0 = ap (λ (xs : List ℕ). min (get_or xs k 0) d) e ∙ (let q = zeros m k in let r : min (get_or {A = ℕ} (replicate m 0) k 0) d ≡ 0 = omega arith in r) in
-      row-there cs vs n d k less ∙ ap (λ x. take x (drop (k * d) vs)) z
-  | inr more ↦ row-none cs vs n d k more
-]

@@ -8,6 +8,7 @@ pub mod impls;
 
 // A row of `depth` places for each key, the row of a key at key × depth, and beside the rows a count for each key of how
 // many of its places are taken. A count past the depth counts as the depth, so that any memory has a meaning.
+// Two slices that are the caller's memory, and no `Vec` of rows: a rule of the project needs it, that memory is lent.
 // (`short` holds of any memory, and stands here for `depth` to promise it.)
 #[derive(Drop)]
 pub struct Rows<'a> {

@@ -1,8 +1,6 @@
 // A tray keeps what is put into it in the order in which it came, in memory that is lent to it.
 #![tactic(auto)]
 
-mod rule;
 mod tray;
 
-pub use rule::Rule;
 pub use tray::Tray;

@@ -1,16 +1,16 @@
-ghost use Rattle.std.specs.Prelude.{◌≡◌, ◌-◌, ◌<◌, ◌≤◌, [], length, take, if◌then◌else◌, Ok, Err, filter, nat_lt, slice_set};
+ghost use Rattle.std.specs.Prelude.{◌≡◌, ◌-◌, ◌<◌, ◌≤◌, [], length, take, if◌then◌else◌, Bool, Ok, Err, filter, nat_lt, slice_set};
 ghost use Rattle.std.specs.List.{remove, slice_get};
-ghost use Rattle.tray.specs.Contents.{contents, room, full, pushed, place_from};
-
-use crate::rule::Rule;
+ghost use Rattle.tray.specs.Contents.{contents, room, full, pushed, place_from, Computes};
 
 // Lent memory, of which the first `len` places are taken. A length past the end of the memory counts as the end.
+// A slice with a length beside it, and no `Vec`: a rule of the project needs it, that memory is fixed or lent.
 #[derive(Drop)]
 pub struct Tray<'a, T> {
     items: &'a mut [T],
     len: usize,
 }
 
+// Each call that changes a tray says in `space` that it keeps its room: this relates two trays, so no type can hold it.
 impl<'a, T: Copy> Tray<'a, T> {
     // An empty tray over the memory.
     pub fn new(items: &'a mut [T]) -> Tray<'a, T>
@@ -54,17 +54,23 @@ impl<'a, T: Copy> Tray<'a, T> {
     pub fn get(&self, i: usize) -> Option<T>
         ensures { result ≡ slice_get (contents self.now) i }
     {
-        copy_at(self.as_slice(), i)
+        self.as_slice().get(i).copied()
     }
 
-    // Writes x over what stands at i, or answers false where nothing stands there.
-    pub fn set(&mut self, i: usize, x: T) -> bool
-        ensures value { result ≡ nat_lt i (length (contents self.old)) }
+    // Writes x over what stands at i, or hands it back where nothing stands there.
+    pub fn set(&mut self, i: usize, x: T) -> Result<(), T>
+        ensures value { result ≡ (if nat_lt i (length (contents self.old)) then Ok tt else Err x) }
         ensures after { contents self.new ≡ slice_set (contents self.old) i x }
         ensures space { room self.new ≡ room self.old }
     {
-        let n = self.len;
-        write_at(self.items, n, i, x)
+        let n = self.used();
+        // A test of i, since a slice's `get_mut` does not promise what a write through it leaves.
+        if i < n {
+            self.items[i] = x;
+            Ok(())
+        } else {
+            Err(x)
+        }
     }
 
     // Puts x at the end, or hands it back where the tray is full.
@@ -105,43 +111,21 @@ impl<'a, T: Copy> Tray<'a, T> {
     }
 
     // Keeps what passes the rule, in its order, and takes out the rest.
-    pub fn retain<R: Rule<T>>(&mut self, rule: &R)
-        ensures after { contents self.new ≡ filter (R.Rule.keeps rule.now) (contents self.old) }
+    pub fn retain<F: Fn(&T) -> bool>(&mut self, rule: F)
+        requires { F.IsAlwaysCallable rule }
+        ensures after { (keeps : T → Bool) → Computes F.Fn rule keeps → contents self.new ≡ filter keeps (contents self.old) }
         ensures space { room self.new ≡ room self.old }
     {
         let n = self.used();
-        let kept = sift(self.items, n, rule);
-        self.len = kept;
+        self.len = sift(self.items, n, rule);
     }
 
     // The position of the first that passes the rule.
-    pub fn find<R: Rule<T>>(&self, rule: &R) -> Option<usize>
-        ensures { result ≡ place_from (R.Rule.keeps rule.now) 0 (contents self.now) }
+    pub fn find<F: Fn(&T) -> bool>(&self, rule: F) -> Option<usize>
+        requires { F.IsAlwaysCallable rule }
+        ensures { (keeps : T → Bool) → Computes F.Fn rule keeps → result ≡ place_from keeps 0 (contents self.now) }
     {
-        first_passing(self.as_slice(), rule)
-    }
-}
-
-fn copy_at<T: Copy>(items: &[T], i: usize) -> Option<T>
-    ensures { result ≡ slice_get items.now i }
-{
-    if i < items.len() {
-        Some(items[i])
-    } else {
-        None
-    }
-}
-
-// Writes x over what stands at i among the first n, or answers false where nothing does.
-fn write_at<T: Copy>(items: &mut [T], n: usize, i: usize, x: T) -> bool
-    ensures value { result ≡ nat_lt i (length (take n items.old)) }
-    ensures after { take n items.new ≡ slice_set (take n items.old) i x }
-{
-    if i < n.min(items.len()) {
-        items[i] = x;
-        true
-    } else {
-        false
+        self.as_slice().iter().position(|x| rule(x))
     }
 }
 
@@ -155,29 +139,20 @@ fn close_gap<T: Copy>(items: &mut [T], n: usize, i: usize)
 }
 
 // Moves those of the first n that pass the rule to the front, and says how many they are.
-fn sift<T: Copy, R: Rule<T>>(items: &mut [T], n: usize, rule: &R) -> usize
-    requires { n ≤ length items.old }
-    ensures front { take result items.new ≡ filter (R.Rule.keeps rule.now) (take n items.old) }
+// A loop, since it writes into the slice that it reads, and the library has no `retain` over a slice.
+fn sift<T: Copy, F: Fn(&T) -> bool>(items: &mut [T], n: usize, rule: F) -> usize
+    requires within { n ≤ length items.old }
+    requires callable { F.IsAlwaysCallable rule }
+    ensures front { (keeps : T → Bool) → Computes F.Fn rule keeps → take result items.new ≡ filter keeps (take n items.old) }
     ensures bound { result ≤ n }
 {
     let mut passed = 0;
     for i in 0..n {
         let x = items[i];
-        if rule.passes(&x) {
+        if rule(&x) {
             items[passed] = x;
             passed += 1;
         }
     }
     passed
-}
-
-fn first_passing<T, R: Rule<T>>(items: &[T], rule: &R) -> Option<usize>
-    ensures { result ≡ place_from (R.Rule.keeps rule.now) 0 items.now }
-{
-    for (i, x) in items.iter().enumerate() {
-        if rule.passes(x) {
-            return Some(i);
-        }
-    }
-    None
 }

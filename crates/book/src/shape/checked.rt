@@ -10,14 +10,11 @@ impl Shape {
     pub fn new(keys: usize, depth: usize, places: usize) -> Result<Shape, Fault>
         ensures { Shaped keys depth places result }
     {
-        if keys == 0 || keys > MAX_KEYS {
-            return Err(Fault::plain(Cause::Shape));
-        }
-        if depth == 0 || depth > MAX_DEPTH {
-            return Err(Fault::plain(Cause::Shape));
-        }
-        if places != keys * depth {
-            return Err(Fault::plain(Cause::Shape));
+        let fits = (1..=MAX_KEYS).contains(&keys)
+            && (1..=MAX_DEPTH).contains(&depth)
+            && places == keys * depth;
+        if !fits {
+            return Err(Cause::Shape.into());
         }
         Ok(Shape { keys, depth })
     }

@@ -5,10 +5,9 @@ ghost use Rattle.journal.specs.Journals.{journal_kept};
 
 use super::Journal;
 use crate::record::Record;
-use crate::search::{count_of, look_up, newest_of};
-use book::{Book, BookView, Newest, Shape};
+use book::{Book, BookView, Shape};
 use clocks::{Clock, Version};
-use faults::{Cause, Fault};
+use faults::Fault;
 use tray::Tray;
 
 impl<'a> Journal<'a> {
@@ -51,39 +50,27 @@ impl<'a> BookView for Journal<'a> {
         self.depth
     }
 
-    fn count(&self, key: usize) -> Result<usize, Fault> {
-        if key < self.keys {
-            Ok(count_of(self.records.as_slice(), key))
-        } else {
-            Err(Fault::plain(Cause::BookKey))
-        }
+    fn list_len(&self, key: usize) -> usize {
+        let records = self.records.as_slice();
+        records.iter().filter(|r| r.key == key).count()
     }
 
-    fn look(&self, key: usize, index: usize) -> Result<Version, Fault> {
-        if key < self.keys {
-            look_up(self.records.as_slice(), key, index)
-        } else {
-            Err(Fault::plain(Cause::BookKey))
-        }
+    fn list_get(&self, key: usize, index: usize) -> Option<Version> {
+        let records = self.records.as_slice();
+        let found = records.iter().filter(|r| r.key == key).nth(index);
+        found.map(|r| r.version)
     }
 
-    fn newest_within(&self, key: usize, bound: &Clock) -> Result<Newest, Fault> {
-        if key < self.keys {
-            Ok(newest_of(self.records.as_slice(), key, bound))
-        } else {
-            Err(Fault::plain(Cause::BookKey))
-        }
+    fn list_newest(&self, key: usize, bound: &Clock) -> Option<Version> {
+        let mut latest_first = self.records.as_slice().iter().rev();
+        let found = latest_first.find(|r| r.key == key && r.version.within(bound));
+        found.map(|r| r.version)
     }
 }
 
 impl<'a> Book for Journal<'a> {
     fn add(&mut self, key: usize, version: Version) -> Result<(), Fault> {
-        if key >= self.keys {
-            return Err(Fault::plain(Cause::BookKey));
-        }
-        if count_of(self.records.as_slice(), key) >= self.depth {
-            return Err(Fault::plain(Cause::Depth));
-        }
+        self.room_for(key)?;
         self.push(key, version);
         Ok(())
     }

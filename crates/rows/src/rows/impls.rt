@@ -1,12 +1,11 @@
 ghost use Rattle.std.specs.Prelude.{◌≡◌, ◌+◌, ◌*◌, ◌<◌, ◌≤◌, ◌&&◌, length, ◌==◌};
-ghost use Rattle.std.specs.List.{slice_get};
-ghost use Rattle.book.specs.Books.{added, blank, blank_over, found};
+ghost use Rattle.book.specs.Books.{added, blank, blank_over};
 ghost use Rattle.book.specs.Limits.{key_limit, depth_limit};
 ghost use Rattle.book.specs.Shapes.{places};
 ghost use Rattle.rows.specs.Rowed.{rows_kept, RowsShaped};
 
 use super::Rows;
-use book::{Book, BookView, Newest, Shape, newest_of};
+use book::{Book, BookView, Shape, newest_of};
 use clocks::{Clock, Version};
 use faults::{Cause, Fault};
 
@@ -21,7 +20,7 @@ impl<'a> Rows<'a> {
         ensures { RowsShaped keys depth (length counts.now) (length versions.now) result }
     {
         if counts.len() != keys {
-            return Err(Fault::plain(Cause::Shape));
+            return Err(Cause::Shape.into());
         }
         Shape::new(keys, depth, versions.len())
     }
@@ -69,11 +68,13 @@ impl<'a> Rows<'a> {
         key * self.depth
     }
 
-    // The versions of the key, oldest first.
+    // The versions of the key, oldest first, and none where the key is not there.
     fn row(&self, key: usize) -> &[Version]
-        requires { key < self.now.keys }
         ensures { result.now ≡ (rows_kept self.now).lists key }
     {
+        if key >= self.keys {
+            return &[];
+        }
         let start = self.start(key);
         let taken = (self.counts[key] as usize).min(self.depth);
         let versions = &*self.versions;
@@ -104,50 +105,23 @@ impl<'a> BookView for Rows<'a> {
         self.depth
     }
 
-    fn count(&self, key: usize) -> Result<usize, Fault> {
-        if key < self.keys {
-            Ok(self.row(key).len())
-        } else {
-            Err(Fault::plain(Cause::BookKey))
-        }
+    fn list_len(&self, key: usize) -> usize {
+        self.row(key).len()
     }
 
-    fn look(&self, key: usize, index: usize) -> Result<Version, Fault> {
-        if key < self.keys {
-            version_at(self.row(key), index)
-        } else {
-            Err(Fault::plain(Cause::BookKey))
-        }
+    fn list_get(&self, key: usize, index: usize) -> Option<Version> {
+        self.row(key).get(index).copied()
     }
 
-    fn newest_within(&self, key: usize, bound: &Clock) -> Result<Newest, Fault> {
-        if key < self.keys {
-            Ok(newest_of(self.row(key), bound))
-        } else {
-            Err(Fault::plain(Cause::BookKey))
-        }
+    fn list_newest(&self, key: usize, bound: &Clock) -> Option<Version> {
+        newest_of(self.row(key), bound)
     }
 }
 
 impl<'a> Book for Rows<'a> {
     fn add(&mut self, key: usize, version: Version) -> Result<(), Fault> {
-        if key >= self.keys {
-            return Err(Fault::plain(Cause::BookKey));
-        }
-        if self.row(key).len() >= self.depth {
-            return Err(Fault::plain(Cause::Depth));
-        }
+        self.room_for(key)?;
         self.push(key, version);
         Ok(())
-    }
-}
-
-fn version_at(row: &[Version], index: usize) -> Result<Version, Fault>
-    ensures { result ≡ found (slice_get row.now index) }
-{
-    if index < row.len() {
-        Ok(row[index])
-    } else {
-        Err(Fault::plain(Cause::Index))
     }
 }

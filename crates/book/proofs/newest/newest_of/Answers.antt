@@ -1,13 +1,16 @@
-use Rattle.std.proofs.Common.{Some, None}
-use Rattle.book.proofs.Lasts.{last_at, last-value}
+use Rattle.std.proofs.Common.{◌≡◌, rules, tests, sym, ◌∙◌, subst}
+use Rattle.std.proofs.lemmas.Iterator.Adapters.{YieldsList-from_rev_slice}
+use Rattle.std.proofs.lemmas.Iterator.Search.{find_from_yields_List}
+use Rattle.book.specs.Newest.{inside, newest, LastWithin}
+use Rattle.book.proofs.Lasts.{newest_found, newest_last}
 use Rattle.book.proofs.newest.newest_of.Goals as goal
 
-pub returns-in-Some : goal.returns-in-Some
-returns-in-Some c =
-    let h = last_at c.args.bound.now c.args.versions.now _ (Some c.in-Some.i) c.in-Some.ensures in
-    record { value = last-value _ _ _ h; last = h }
-
-pub returns-in-None : goal.returns-in-None
-returns-in-None c =
-    let h = last_at c.args.bound.now c.args.versions.now _ None c.in-None.ensures in
-    record { value = last-value _ _ _ h; last = h }
+pub returns : goal.returns
+returns c =
+    let b = c.args.bound.now in
+    let vs = c.args.versions.now in
+    let value : c.copied.result ≡ newest b vs =
+    c.copied.ensures
+    ∙ find_from_yields_List (inside b) _ _ c.find.result c.find.ensures.ran (YieldsList-from_rev_slice vs (cc)) (λ x t q k. search (rules, tests))
+    ∙ newest_found b vs in
+    record { value = value; last = subst (LastWithin b vs) (sym value) (newest_last b vs) }
