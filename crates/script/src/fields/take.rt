@@ -9,7 +9,7 @@ ghost use Rattle.script.specs.Limits.{text_limit};
 
 use super::Fields;
 use faults::{Cause, Fault};
-use words::{BookKind, Name, all_digits, book_named, number, value_after};
+use words::{BookKind, Name, all_digits, number, value_after};
 
 // Where the field that starts at `from` ends.
 fn field_end(line: &[u8], from: usize) -> usize
@@ -122,7 +122,7 @@ impl<'a> Fields<'a> {
         ensures { MatchResult result (λ b. Took self.old self.new (named Name.Book ++ book_word b)) (λ f. BadAt self.old a_book f) }
     {
         let value = self.value(Name::Book)?;
-        let Some(book) = book_named(value.bytes) else {
+        let Ok(book) = BookKind::try_from(value.bytes) else {
             return Err(value.fault(Cause::Call));
         };
         Ok(book)
