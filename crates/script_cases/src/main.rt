@@ -4,14 +4,6 @@
 use script::{Command, Reader, parse_line};
 use std::io;
 use std::io::Read;
-use words::BookKind;
-
-fn book_word(book: BookKind) -> &'static str {
-    match book {
-        BookKind::Journal => "journal",
-        BookKind::Rows => "rows",
-    }
-}
 
 fn show(rt: &HostRuntime, command: Command<'_>) -> io::Result<()> {
     match command {
@@ -22,8 +14,7 @@ fn show(rt: &HostRuntime, command: Command<'_>) -> io::Result<()> {
             book,
         } => {
             let keys = homes.len();
-            let word = book_word(book);
-            println!(rt; "do=open towers={towers} keys={keys} depth={depth} book={word}")
+            println!(rt; "do=open towers={towers} keys={keys} depth={depth} book={book}")
         }
         Command::Begin { tower } => println!(rt; "do=begin tower={tower}"),
         Command::Read { tx, key } => println!(rt; "do=read tx={tx} key={key}"),
@@ -37,14 +28,11 @@ fn show(rt: &HostRuntime, command: Command<'_>) -> io::Result<()> {
 }
 
 fn show_lines(rt: &HostRuntime, text: &[u8]) -> io::Result<()> {
-    let mut reader = match Reader::new(text) {
+    let reader = match Reader::new(text) {
         Ok(reader) => reader,
         Err(fault) => return println!(rt; "line=0 {fault}"),
     };
-    for n in 1..u64::MAX {
-        let Some(line) = reader.next_line() else {
-            break;
-        };
+    for (n, line) in (1u64..).zip(reader) {
         print!(rt; "line={n} ")?;
         match parse_line(line) {
             Ok(command) => show(rt, command)?,
