@@ -1,76 +1,100 @@
 -- How a text is cut at a byte.
-use Rattle.std.proofs.Common.{◌≡◌, ℕ, zero, suc, ◌+◌, ◌-◌, ◌<◌, ◌≤◌, true, false, eqb, leb, List, [], ◌∷◌, length, get_or, take, drop, sym, refl, ap, ◌∙◌, arith, eq-eqb, ne_eqb, le-leb}
+use Rattle.std.proofs.Common.{◌≡◌, ℕ, suc, ◌+◌, ◌<◌, ◌≤◌, Bool, true, false, eqb, leb, List, [], ◌∷◌, ◌++◌, length, get_or, drop, Some, sym, refl, ap, ◌∙◌, subst, append_assoc, arith, le-leb}
 use borrow.Author.Tests.{lt-leb}
-use Rattle.std.proofs.lemmas.List.{take_all, drop-drop, drop_all, get_or-drop, length-drop, length-take}
-use Rattle.script.specs.Grammar.{fields_of, lines_of, onto, parts, placed, words_of}
+use denote.Param.Members.{Mut}
+use denote.Ref.{Bor}
+use Rattle.std.specs.Bool.{MatchBool}
+use Rattle.std.specs.Fn.{Called}
+use Rattle.std.specs.List.{All, IsFirstMatchOrLen, onto_first, slice_split}
+use Rattle.std.specs.declared.slice.Split.{Split}
+use Rattle.std.specs.Slice.Iter.{split_callee, split_rest, split_steps}
+use Rattle.std.proofs.Math.Seq.{get_or-append_seam}
+use Rattle.std.proofs.Math.ListN.{get_or-append}
+use Rattle.std.proofs.lemmas.Bool.{eqb-true}
+use Rattle.std.proofs.lemmas.Fn.{always_returns_same}
+use Rattle.std.proofs.lemmas.List.{drop-drop, drop_all, length-append, length-drop}
+use Rattle.std.proofs.lemmas.List.Prefix.{front_rest}
+use Rattle.std.proofs.lemmas.List.Splits.{slice_split_at, slice_split_none}
+use Rattle.script.specs.Grammar.{fields_of, lines_of, onto, placed, words_of}
 use Rattle.script.specs.Readers.{left, texts}
 
--- no byte from `from` to `end` is `sep`
-abbrev pub Clear : ℕ → List ℕ → ℕ → ℕ → Type 0
-Clear sep text from end = (k : ℕ) → from ≤ k → k < end → get_or text k 0 ≡ sep → ⊥
+-- no byte of w is `sep`
+abbrev pub Free : ℕ → List ℕ → Type 0
+Free sep w = All (λ b. eqb b sep ≡ false) w
 
-module _ (sep : ℕ) (none : List (List ℕ)) where
-  -- up to the first `sep`, which stands at k
-  parts_cut : (bs : List ℕ) (k : ℕ) → Clear sep bs 0 k → k < length bs → get_or bs k 0 ≡ sep → parts sep none bs ≡ take k bs ∷ parts sep none (drop (suc k) bs)
-  parts_cut [] k clear h e = absurd (omega arith)
-  parts_cut (b ∷ bs) zero clear h e = rw (eq-eqb b sep e)
-  parts_cut (b ∷ bs) (suc k) clear h e =
-      let other : eqb b sep ≡ false = ne_eqb b sep (clear 0 (omega arith) (omega arith)) in
-      rw (other, parts_cut bs k (λ i g l. clear (suc i) (omega arith) (omega arith)) (omega arith) e)
+-- x is the front of bs up to the first `sep`, or all of bs where there is none
+pub data First (sep : ℕ) (x bs : List ℕ) : Type 0 where
+  all : Free sep x → bs ≡ x → First sep x bs
+  front : (more : List ℕ) → Free sep x → bs ≡ x ++ (sep ∷ more) → First sep x bs
 
-  -- no `sep` stands in the text
-  parts_last : ((b : ℕ) → onto b none ≡ (b ∷ []) ∷ []) → (b : ℕ) (bs : List ℕ) → Clear sep (b ∷ bs) 0 (suc (length bs)) → parts sep none (b ∷ bs) ≡ (b ∷ bs) ∷ []
-  parts_last one b [] clear =
-      let other : eqb b sep ≡ false = ne_eqb b sep (clear 0 (omega arith) (omega arith)) in
-      rw (other, one b)
-  parts_last one b (a ∷ bs) clear =
-      let other : eqb b sep ≡ false = ne_eqb b sep (clear 0 (omega arith) (omega arith)) in
-      rw (other, parts_last one a bs (λ i g l. clear (suc i) (omega arith) (omega arith)))
+pub first_le : {sep : ℕ} {x bs : List ℕ} → First sep x bs → length x ≤ length bs
+first_le (all f e) = omega (arith, ap length e)
+first_le {sep} {x} (front more f e) = omega (arith, ap length e, length-append x (sep ∷ more))
 
-  -- the part that starts at `from` and ends before the `sep` at `end`
-  pub cut-from : (text : List ℕ) (from end : ℕ) → from ≤ end → end < length text → Clear sep text from end → get_or text end 0 ≡ sep → parts sep none (drop from text) ≡ take (end - from) (drop from text) ∷ parts sep none (drop (end + 1) text)
-  cut-from text from end h l clear e =
-      let back : from + (end - from) ≡ end = omega arith in
-      let first = parts_cut (drop from text) (end - from)
-      (λ i g lt q. clear (from + i) (omega arith) (omega arith) (sym (get_or-drop from text i 0) ∙ q))
-      (omega (arith, length-drop from text)) (get_or-drop from text (end - from) 0 ∙ ap (λ k. get_or text k 0) back ∙ e) in
-      let rest : drop (suc (end - from)) (drop from text) ≡ drop (end + 1) text = drop-drop (suc (end - from)) from text ∙ ap (λ k. drop k text) (omega arith) in
-      first ∙ ap (λ d. take (end - from) (drop from text) ∷ parts sep none d) rest
+first_in : (sep : ℕ) (x bs more : List ℕ) (done : Bool) → MatchBool done (bs ≡ x) ((y : ℕ) × (bs ≡ x ++ (y ∷ more))) → IsFirstMatchOrLen (λ b. eqb b sep) bs (length x) → First sep x bs
+first_in sep x bs more true e p = all (λ k d h. rw e at (p.0 k d (omega arith) h)) e
+first_in sep x bs more false (y, e) p =
+    let at : eqb (get_or bs (length x) 0) sep ≡ true = p.1 (omega (arith, ap length e, length-append x (y ∷ more))) 0 in
+    let here : y ≡ sep = eqb-true y sep (ap (λ b. eqb b sep) (sym (ap (λ l. get_or l (length x) 0) e ∙ get_or-append_seam x y more 0)) ∙ at) in
+    front more
+    (λ k d h. ap (λ b. eqb b sep) (sym (ap (λ l. get_or l k d) e ∙ get_or-append x (y ∷ more) d k h)) ∙ p.0 k d (omega arith) h)
+    (rw here at e)
 
-clear_rest : (sep : ℕ) (text : List ℕ) (from end : ℕ) → end ≡ length text → Clear sep text from end → Clear sep (drop from text) 0 (length (drop from text))
-clear_rest sep text from end l clear i g lt q = clear (from + i) (omega arith) (omega (arith, length-drop from text)) (sym (get_or-drop from text i 0) ∙ q)
+-- what `split` gives first, where its closure tells `sep`
+pub first_of_split : {F : Type 0} (g : Mut F (Bor ℕ × Unit {0}) Bool) (sep : ℕ) (bs : List ℕ) (s t : Split ℕ F) (x : Bor (List ℕ)) → split_steps g s (Some x) t → split_rest s ≡ bs → ((a : Bor ℕ × Unit {0}) (r : Bool) (q : F) → Called g (split_callee s) a r q → (r ≡ eqb a.0.now sep) × (q ≡ split_callee s)) → First sep x.now bs
+first_of_split g sep bs s t x h e calls =
+    let key = always_returns_same g (λ a r. r ≡ eqb a.0.now sep) (split_callee s) calls in
+    subst (λ l. First sep x.now l) e (first_in sep x.now (split_rest s) (split_rest t) _ h.1 (h.2 (λ b. eqb b sep) key).1)
 
-all_taken : (text : List ℕ) (from end : ℕ) → end ≡ length text → take (end - from) (drop from text) ≡ drop from text
-all_taken text from end l = take_all (end - from) (drop from text) (omega (arith, length-drop from text))
+onto_is : (b : ℕ) (ws : List (List ℕ)) → onto b ws ≡ onto_first b ws
+onto_is b [] = refl
+onto_is b (w ∷ ws) = refl
 
-words_last : (bs : List ℕ) → Clear 32 bs 0 (length bs) → words_of bs ≡ bs ∷ []
-words_last [] clear = refl
-words_last (b ∷ bs) clear = parts_last 32 ([] ∷ []) (λ _. refl) b bs clear
+pub words_split : (bs : List ℕ) → words_of bs ≡ slice_split (λ b. eqb b 32) bs
+words_split [] = refl
+words_split (b ∷ bs) = rw (onto_is, words_split bs)
 
-lines-last : (bs : List ℕ) → 0 < length bs → Clear 10 bs 0 (length bs) → lines_of bs ≡ bs ∷ []
-lines-last [] h clear = absurd (omega arith)
-lines-last (b ∷ bs) h clear = parts_last 10 [] (λ _. refl) b bs clear
+pub words_front : (w bs : List ℕ) → Free 32 w → words_of (w ++ (32 ∷ bs)) ≡ w ∷ words_of bs
+words_front w bs f = words_split (w ++ (32 ∷ bs)) ∙ slice_split_at (λ b. eqb b 32) w 32 bs f refl ∙ ap (λ l. w ∷ l) (sym (words_split bs))
 
-pub lines_end : (text : List ℕ) (from end : ℕ) → from < length text → end ≡ length text → Clear 10 text from end → lines_of (drop from text) ≡ take (end - from) (drop from text) ∷ lines_of (drop (end + 1) text)
-lines_end text from end h l clear =
-    let last = lines-last (drop from text) (omega (arith, length-drop from text)) (clear_rest 10 text from end l clear) in
-    let none : drop (end + 1) text ≡ [] = drop_all (end + 1) text (omega arith) in
-    rw (none, all_taken text from end l) last
+pub words_free : (w : List ℕ) → Free 32 w → words_of w ≡ w ∷ []
+words_free w f = words_split w ∙ slice_split_none (λ b. eqb b 32) w f
 
-pub left_cut : (line : List ℕ) (from end : ℕ) → from ≤ end → end < length line → Clear 32 line from end → get_or line end 0 ≡ 32 → left line from ≡ record { start = from; bytes = take (end - from) (drop from line) } ∷ left line (end + 1)
+lines_front : (w bs : List ℕ) → Free 10 w → lines_of (w ++ (10 ∷ bs)) ≡ w ∷ lines_of bs
+lines_front [] bs f = refl
+lines_front (b ∷ w) bs f = rw (f 0 0 (omega arith), lines_front w bs (λ k d h. f (suc k) d (omega arith)))
+
+lines_free : (w : List ℕ) → 0 < length w → Free 10 w → lines_of w ≡ w ∷ []
+lines_free [] h f = absurd (omega arith)
+lines_free (b ∷ []) h f = rw (f 0 0 (omega arith))
+lines_free (b ∷ a ∷ w) h f = rw (f 0 0 (omega arith), lines_free (a ∷ w) (omega arith) (λ k d h. f (suc k) d (omega arith)))
+
+-- what is left after the first part and its `sep`
+after : (sep : ℕ) (x text : List ℕ) (at : ℕ) (more : List ℕ) → drop at text ≡ x ++ (sep ∷ more) → drop (at + (length x + 1)) text ≡ more
+after sep x text at more e =
+    ap (λ n. drop n text) (omega (arith, length-append x (sep ∷ []))) ∙ sym (drop-drop (length (x ++ (sep ∷ []))) at text)
+    ∙ front_rest (drop at text) (x ++ (sep ∷ [])) more (e ∙ sym (append_assoc x (sep ∷ []) more))
+
+pub line_taken : (text : List ℕ) (at : ℕ) (x : List ℕ) → at < length text → First 10 x (drop at text) → lines_of (drop at text) ≡ x ∷ lines_of (drop (at + (length x + 1)) text)
+line_taken text at x h (all f e) =
+    let size : length text ≡ at + length x = omega (arith, ap length e, length-drop at text) in
+    let none : drop (at + (length x + 1)) text ≡ [] = drop_all (at + (length x + 1)) text (omega arith) in
+    rw (none, e) (lines_free x (omega arith) f)
+line_taken text at x h (front more f e) = rw (after 10 x text at more e, e) (lines_front x more f)
+
+pub field_taken : (line : List ℕ) (at : ℕ) (x : List ℕ) → at ≤ length line → First 32 x (drop at line) → left line at ≡ record { start = at; bytes = x } ∷ left line (at + (length x + 1))
 unfolding left
-left_cut line from end h l clear e =
-    let here : leb from (length line) ≡ true = le-leb from (length line) (omega arith) in
-    let next : leb (end + 1) (length line) ≡ true = le-leb (end + 1) (length line) (omega arith) in
-    let long : from + length (take (end - from) (drop from line)) + 1 ≡ end + 1 = omega (arith, length-take (end - from) (drop from line), length-drop from line) in
-    rw (here, next, cut-from 32 ([] ∷ []) line from end h l clear e, long)
-
-pub left-last : (line : List ℕ) (from end : ℕ) → from ≤ end → end ≡ length line → Clear 32 line from end → left line from ≡ record { start = from; bytes = take (end - from) (drop from line) } ∷ left line (end + 1)
-unfolding left
-left-last line from end h l clear =
-    let here : leb from (length line) ≡ true = le-leb from (length line) (omega arith) in
-    let next : leb (end + 1) (length line) ≡ false = lt-leb (end + 1) (length line) (omega arith) in
-    rw (here, next, words_last (drop from line) (clear_rest 32 line from end l clear), all_taken line from end l)
+field_taken line at x h (all f e) =
+    let size : length line ≡ at + length x = omega (arith, ap length e, length-drop at line) in
+    let here : leb at (length line) ≡ true = le-leb at (length line) h in
+    let next : leb (at + (length x + 1)) (length line) ≡ false = lt-leb (at + (length x + 1)) (length line) (omega arith) in
+    rw (here, next, e, words_free x f)
+field_taken line at x h (front more f e) =
+    let size : length line ≡ at + (length x + (1 + length more)) = omega (arith, ap length e, length-drop at line, length-append x (32 ∷ more)) in
+    let here : leb at (length line) ≡ true = le-leb at (length line) h in
+    let next : leb (at + (length x + 1)) (length line) ≡ true = le-leb (at + (length x + 1)) (length line) (omega arith) in
+    let long : at + length x + 1 ≡ at + (length x + 1) = omega arith in
+    rw (here, next, after 32 x line at more e, e, words_front x more f, long)
 
 pub left-none : (line : List ℕ) (at : ℕ) → length line < at → left line at ≡ []
 unfolding left

@@ -1,5 +1,6 @@
 -- What the readers of a text and of a line have before them, and what is taken from them.
-use Rattle.std.specs.Prelude.{◌≡◌, ℕ, ◌<◌, ◌≤◌, cond, List, [], ◌∷◌, length, drop, Ok, Err, Result, MatchResult, nat_le}
+use Rattle.std.specs.Prelude.{◌≡◌, ℕ, ◌<◌, ◌≤◌, cond, List, [], ◌∷◌, length, drop, Option, MatchOption, Ok, Err, Result, MatchResult, nat_le}
+use Rattle.std.specs.Borrow.{Bor}
 use Rattle.faults.specs.declared.Cause.TheVariants.{Size}
 use Rattle.faults.specs.declared.Fault.{Fault}
 use Rattle.faults.specs.Table.{plain}
@@ -27,6 +28,10 @@ pub record Line (r s : Reader) (l : List ℕ) : Type 0 where
   pub same : s.text.now ≡ r.text.now
   pub lines : ahead r ≡ l ∷ ahead s
   pub short : length l ≤ length r.text.now
+
+-- what is taken from the reader r, which is s then: its next line, or nothing where no line is left
+abbrev pub TakesLine : Reader → Option (Bor (List ℕ)) → Reader → Type 0
+TakesLine r x s = MatchOption x ((ahead r ≡ []) × (ahead s ≡ [])) (λ l. Line r s l.now)
 
 -- the fields of a line from the place `at` on; none is left past the line's end
 unfoldable pub left : List ℕ → ℕ → List Field

@@ -1,7 +1,6 @@
 // A script that is read from the left, line by line.
-ghost use Rattle.std.specs.Prelude.{◌≡◌, ◌+◌, ◌-◌, ◌<◌, ◌≤◌, [], ◌∷◌, length, take, drop, MatchOption};
-ghost use Rattle.script.specs.Grammar.{lines_of};
-ghost use Rattle.script.specs.Readers.{Line, Opens, ahead};
+ghost use Rattle.std.specs.Iterator.{item_count};
+ghost use Rattle.script.specs.Readers.{Opens, TakesLine, ahead};
 
 use faults::{Cause, Fault};
 
@@ -15,22 +14,6 @@ pub struct Reader<'a> {
     at: usize,
 }
 
-// Where the line that starts at `from` ends.
-fn line_end(text: &[u8], from: usize) -> usize
-    requires { from < length text.now }
-    ensures within { (from ≤ result) × (result ≤ length text.now) }
-    ensures cuts { lines_of (drop from text.now) ≡ take (result - from) (drop from text.now) ∷ lines_of (drop (result + 1) text.now) }
-{
-    let mut end = from;
-    while end < text.len() {
-        match text[end] {
-            b'\n' => break,
-            _ => end += 1,
-        }
-    }
-    end
-}
-
 impl<'a> Reader<'a> {
     // A reader at the start of a text that is not too long.
     pub fn new(text: &'a [u8]) -> Result<Reader<'a>, Fault>
@@ -41,18 +24,23 @@ impl<'a> Reader<'a> {
         }
         Ok(Reader { text, at: 0 })
     }
+}
 
-    // The next line, without the byte that ends it.
-    pub fn next_line(&mut self) -> Option<&'a [u8]>
-        ensures { MatchOption result (ahead self.old ≡ []) (λ l. Line self.old self.new l.now) }
-    {
-        let start = self.at;
-        let text = self.text;
-        if start >= text.len() {
+// The lines, each without the byte that ends it.
+impl<'a> Iterator for Reader<'a> {
+    type Item = &'a [u8];
+
+    ghost next_gives = { TakesLine };
+
+    ghost remaining = { item_count ahead };
+
+    fn next(&mut self) -> Option<&'a [u8]> {
+        let rest = self.text.get(self.at..)?;
+        if rest.is_empty() {
             return None;
         }
-        let end = line_end(text, start);
-        self.at = end + 1;
-        Some(&text[start..end])
+        let line = rest.split(|b| matches!(b, b'\n')).next()?;
+        self.at += line.len() + 1;
+        Some(line)
     }
 }

@@ -2,53 +2,49 @@
 #![tactic(auto)]
 
 use script::{Command, Reader, parse_line};
-use std::io;
 use std::io::Read;
-use words::BookKind;
+use std::{fmt, io};
 
-fn book_word(book: BookKind) -> &'static str {
-    match book {
-        BookKind::Journal => "journal",
-        BookKind::Rows => "rows",
-    }
-}
+// A command as it is printed again: of its homes, only how many keys there are.
+#[derive(Clone, Copy)]
+struct Shown<'a>(Command<'a>);
 
-fn show(rt: &HostRuntime, command: Command<'_>) -> io::Result<()> {
-    match command {
-        Command::Open {
-            towers,
-            homes,
-            depth,
-            book,
-        } => {
-            let keys = homes.len();
-            let word = book_word(book);
-            println!(rt; "do=open towers={towers} keys={keys} depth={depth} book={word}")
+impl<'a> fmt::Display for Shown<'a> {
+    fn fmt<W: fmt::Write>(&self, f: &mut fmt::Formatter<W>) -> fmt::Result {
+        match self.0 {
+            Command::Open {
+                towers,
+                homes,
+                depth,
+                book,
+            } => {
+                let keys = homes.len();
+                write!(
+                    f,
+                    "do=open towers={towers} keys={keys} depth={depth} book={book}"
+                )
+            }
+            Command::Begin { tower } => write!(f, "do=begin tower={tower}"),
+            Command::Read { tx, key } => write!(f, "do=read tx={tx} key={key}"),
+            Command::Draft { tx, key, value } => {
+                write!(f, "do=draft tx={tx} key={key} value={value}")
+            }
+            Command::Close { tx } => write!(f, "do=close tx={tx}"),
+            Command::Drop { tx } => write!(f, "do=drop tx={tx}"),
+            Command::Deliver { position } => write!(f, "do=deliver msg={position}"),
         }
-        Command::Begin { tower } => println!(rt; "do=begin tower={tower}"),
-        Command::Read { tx, key } => println!(rt; "do=read tx={tx} key={key}"),
-        Command::Draft { tx, key, value } => println!(rt;
-            "do=draft tx={tx} key={key} value={value}"
-        ),
-        Command::Close { tx } => println!(rt; "do=close tx={tx}"),
-        Command::Drop { tx } => println!(rt; "do=drop tx={tx}"),
-        Command::Deliver { position } => println!(rt; "do=deliver msg={position}"),
     }
 }
 
 fn show_lines(rt: &HostRuntime, text: &[u8]) -> io::Result<()> {
-    let mut reader = match Reader::new(text) {
+    let reader = match Reader::new(text) {
         Ok(reader) => reader,
         Err(fault) => return println!(rt; "line=0 {fault}"),
     };
-    for n in 1..u64::MAX {
-        let Some(line) = reader.next_line() else {
-            break;
-        };
-        print!(rt; "line={n} ")?;
+    for (n, line) in (1u64..).zip(reader) {
         match parse_line(line) {
-            Ok(command) => show(rt, command)?,
-            Err(fault) => println!(rt; "{fault}")?,
+            Ok(command) => println!(rt; "line={n} {}", Shown(command))?,
+            Err(fault) => println!(rt; "line={n} {fault}")?,
         }
     }
     Ok(())

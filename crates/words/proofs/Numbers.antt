@@ -1,27 +1,15 @@
 -- What a row of digits writes.
-use Rattle.std.proofs.Common.{◌≡◌, ℕ, zero, suc, ◌+◌, ◌*◌, ◌^◌, ◌<◌, ◌≤◌, List, [], ◌∷◌, ◌++◌, length, get_or, take, drop, decimal, sym, refl, ap, ◌∙◌, subst, arith, take-append-drop}
+use Rattle.std.proofs.Common.{◌≡◌, ℕ, zero, suc, ◌^◌, ◌<◌, ◌≤◌, List, [], ◌∷◌, length, get_or, Bool, true, false, Decides, decimal, sym, refl, ap, ◌∙◌, subst, arith}
+use Rattle.std.specs.Bool.{MatchBool}
 use Rattle.std.specs.Char.{digit_value}
-use Rattle.std.specs.Str.Parse.{AllDigits, digits_value, digits_value_after}
+use Rattle.std.specs.List.{AllWithin, HoldsAt}
+use Rattle.std.specs.Str.Parse.{AllDigits, digits_value}
 use Rattle.std.proofs.lemmas.Str.Parse.{IsNumeralModel, numerals_by_value, tells_digits}
 use Rattle.std.proofs.lemmas.Fmt.{digits_decimal, digits_value-decimal, decimal-digits_value, decimal_nonempty, first_decimal, decimal_digit}
 use Rattle.words.specs.Words.{NoNumber}
 
 pub own : IsNumeralModel (AllDigits 10) (digits_value 10)
 own = numerals_by_value (AllDigits 10) tells_digits
-
-value_after_ge : (n : ℕ) (cs : List ℕ) → n ≤ digits_value_after 10 n cs
-value_after_ge n [] = omega arith
-value_after_ge n (c ∷ cs) = omega (arith, value_after_ge (n * 10 + digit_value c) cs)
-
-value_after_append : (n : ℕ) (xs ys : List ℕ) → digits_value_after 10 n (xs ++ ys) ≡ digits_value_after 10 (digits_value_after 10 n xs) ys
-value_after_append n [] ys = refl
-value_after_append n (x ∷ xs) ys = value_after_append (n * 10 + digit_value x) xs ys
-
--- a front of the digits writes no more than all of them
-pub front_le : (k : ℕ) (bs : List ℕ) → digits_value 10 (take k bs) ≤ digits_value 10 bs
-front_le k bs =
-    let e : digits_value 10 (take k bs ++ drop k bs) ≡ digits_value 10 bs = ap (digits_value 10) (take-append-drop k bs) in
-    omega (arith, e, value_after_append 0 (take k bs) (drop k bs), value_after_ge (digits_value 10 (take k bs)) (drop k bs))
 
 digit_value_at : (bs : List ℕ) (i : ℕ) → AllDigits 10 bs → i < length bs → digit_value (get_or bs i 0) < 10
 digit_value_at (b ∷ bs) zero d h = d.0
@@ -30,6 +18,15 @@ digit_value_at [] i d h = absurd (omega arith)
 
 pub no_digit : (bs : List ℕ) (i : ℕ) → i < length bs → 10 ≤ digit_value (get_or bs i 0) → AllDigits 10 bs → ⊥
 no_digit bs i h big d = omega (arith, digit_value_at bs i d h)
+
+digits_from_each : (bs : List ℕ) → AllWithin (λ b. digit_value b < 10) bs 0 (length bs) → AllDigits 10 bs
+digits_from_each [] each = tt
+digits_from_each (b ∷ bs) each = (each 0 0 (omega arith) (omega arith), digits_from_each bs (λ k d l h. each (suc k) d (omega arith) (omega arith)))
+
+-- a row was searched for a byte that is no digit
+pub digits_decided : (r : Bool) (bs : List ℕ) → MatchBool r (AllWithin (λ b. digit_value b < 10) bs 0 (length bs)) ((k : ℕ) × (k < length bs) × HoldsAt (λ b. 10 ≤ digit_value b) bs k) → Decides r (AllDigits 10 bs)
+digits_decided true bs each = (λ _. digits_from_each bs each, λ _. refl)
+digits_decided false bs found = (λ e. cc, λ d. absurd (no_digit bs found.0 found.1 (found.2 0) d))
 
 -- a numeral: digits, at least one, and a leading zero only alone
 pub record Plain (bs : List ℕ) : Type 0 where

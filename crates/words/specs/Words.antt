@@ -1,9 +1,10 @@
 -- The words of a script, and the numbers that it may write.
-use Rattle.std.specs.Prelude.{ℕ, ◌^◌, ◌<◌, List, codes, decimal, ◌≢◌}
+use Rattle.std.specs.Prelude.{ℕ, ◌^◌, ◌<◌, List, codes, decimal, Result, MatchResult, ◌≡◌, ◌≢◌}
 use Rattle.words.specs.declared.BookKind.{BookKind}
 use Rattle.words.specs.declared.BookKind.TheVariants.{Journal, Rows}
 use Rattle.words.specs.declared.Name.{Name}
 use Rattle.words.specs.declared.Name.TheVariants.{Towers, Homes, Depth, Book, Tower, Tx, Key, Value, Msg}
+use Rattle.words.specs.declared.UnknownWord.{UnknownWord}
 use Rattle.words.specs.declared.Verb.{Verb}
 use Rattle.words.specs.declared.Verb.TheVariants.{Open, Begin, Read, Draft, Close, Drop, Deliver}
 
@@ -37,3 +38,11 @@ verb_word Deliver = codes "deliver"
 abbrev pub book_word : BookKind → List ℕ
 book_word Journal = codes "journal"
 book_word Rows = codes "rows"
+
+-- the result is the call that the word names, or an error where it names none
+abbrev pub NamesVerb : List ℕ → Result Verb UnknownWord → Type 0
+NamesVerb word r = MatchResult r (λ k. word ≡ verb_word k) (λ _. (k : Verb) → word ≢ verb_word k)
+
+-- the result is the kind of book that the word names, or an error where it names none
+abbrev pub NamesBook : List ℕ → Result BookKind UnknownWord → Type 0
+NamesBook word r = MatchResult r (λ b. word ≡ book_word b) (λ _. (b : BookKind) → word ≢ book_word b)

@@ -1,13 +1,12 @@
 // The words of a script: numbers, names of fields, calls and books.
 #![tactic(auto)]
 
-ghost use Rattle.std.specs.Prelude.{◌≡◌, ℕ, ◌^◌, ◌<◌, ◌≤◌, List, ◌++◌, codes, decimal, Decides, MatchOption, ◌≢◌};
+ghost use Rattle.std.specs.Prelude.{◌≡◌, ℕ, ◌^◌, ◌<◌, ◌≤◌, List, ◌++◌, codes, decimal, Decides, MatchOption, Some, ◌≢◌};
 ghost use Rattle.std.specs.Str.Parse.{AllDigits, digits_value};
 ghost use Rattle.std.specs.Char.{digit_value};
-ghost use Rattle.words.specs.Words.{NoNumber, book_word, named, verb_word};
+ghost use Rattle.words.specs.Words.{NamesBook, NamesVerb, NoNumber, book_word, named};
 
-// The largest number that a script may write.
-const LARGEST: u64 = 4_294_967_295;
+use std::fmt;
 
 // The name of a field.
 #[derive(Clone, Copy)]
@@ -56,17 +55,11 @@ fn digit(b: u8) -> Option<u8>
 fn value_of(ds: &[u8]) -> Option<u32>
     ensures { MatchOption result (AllDigits 10 ds.now → digits_value 10 ds.now < 2 ^ 32 → ⊥) (λ n. AllDigits 10 ds.now × (n ≡ digits_value 10 ds.now)) }
 {
-    let mut n: u64 = 0;
+    let mut n: u32 = 0;
     for c in ds {
-        let Some(d) = digit(*c) else {
-            return None;
-        };
-        n = n * 10 + u64::from(d);
-        if n > LARGEST {
-            return None;
-        }
+        n = n.checked_mul(10)?.checked_add(u32::from(digit(*c)?))?;
     }
-    Some(n as u32)
+    Some(n)
 }
 
 // The number that the bytes write: digits, at least one, and no zero in front of others.
@@ -80,30 +73,54 @@ pub fn number(bs: &[u8]) -> Option<u32>
     }
 }
 
+// A word that names nothing of the kind that was asked for.
+#[derive(Clone, Copy)]
+pub struct UnknownWord;
+
 // The call that a word names.
-pub fn verb_named(word: &[u8]) -> Option<Verb>
-    ensures { MatchOption result ((k : Verb) → word.now ≢ verb_word k) (λ k. word.now ≡ verb_word k) }
-{
-    match word {
-        [b'o', b'p', b'e', b'n'] => Some(Verb::Open),
-        [b'b', b'e', b'g', b'i', b'n'] => Some(Verb::Begin),
-        [b'r', b'e', b'a', b'd'] => Some(Verb::Read),
-        [b'd', b'r', b'a', b'f', b't'] => Some(Verb::Draft),
-        [b'c', b'l', b'o', b's', b'e'] => Some(Verb::Close),
-        [b'd', b'r', b'o', b'p'] => Some(Verb::Drop),
-        [b'd', b'e', b'l', b'i', b'v', b'e', b'r'] => Some(Verb::Deliver),
-        _ => None,
+impl TryFrom<&[u8]> for Verb {
+    type Error = UnknownWord;
+
+    ghost try_from_gives = { λ word. NamesVerb word.now };
+
+    fn try_from(word: &[u8]) -> Result<Verb, UnknownWord> {
+        match word {
+            [b'o', b'p', b'e', b'n'] => Ok(Verb::Open),
+            [b'b', b'e', b'g', b'i', b'n'] => Ok(Verb::Begin),
+            [b'r', b'e', b'a', b'd'] => Ok(Verb::Read),
+            [b'd', b'r', b'a', b'f', b't'] => Ok(Verb::Draft),
+            [b'c', b'l', b'o', b's', b'e'] => Ok(Verb::Close),
+            [b'd', b'r', b'o', b'p'] => Ok(Verb::Drop),
+            [b'd', b'e', b'l', b'i', b'v', b'e', b'r'] => Ok(Verb::Deliver),
+            _ => Err(UnknownWord),
+        }
     }
 }
 
 // The kind of book that a word names.
-pub fn book_named(word: &[u8]) -> Option<BookKind>
-    ensures { MatchOption result ((b : BookKind) → word.now ≢ book_word b) (λ b. word.now ≡ book_word b) }
-{
-    match word {
-        [b'j', b'o', b'u', b'r', b'n', b'a', b'l'] => Some(BookKind::Journal),
-        [b'r', b'o', b'w', b's'] => Some(BookKind::Rows),
-        _ => None,
+impl TryFrom<&[u8]> for BookKind {
+    type Error = UnknownWord;
+
+    ghost try_from_gives = { λ word. NamesBook word.now };
+
+    fn try_from(word: &[u8]) -> Result<BookKind, UnknownWord> {
+        match word {
+            [b'j', b'o', b'u', b'r', b'n', b'a', b'l'] => Ok(BookKind::Journal),
+            [b'r', b'o', b'w', b's'] => Ok(BookKind::Rows),
+            _ => Err(UnknownWord),
+        }
+    }
+}
+
+// The word of a kind of book.
+impl fmt::Display for BookKind {
+    ghost output = { λ b. Some (book_word b) };
+
+    fn fmt<W: fmt::Write>(&self, f: &mut fmt::Formatter<W>) -> fmt::Result {
+        f.write_str(match self {
+            BookKind::Journal => "journal",
+            BookKind::Rows => "rows",
+        })
     }
 }
 
@@ -111,109 +128,23 @@ pub fn book_named(word: &[u8]) -> Option<BookKind>
 pub fn all_digits(row: &[u8]) -> bool
     ensures { Decides result (AllDigits 10 row.now) }
 {
-    for c in row {
-        let Some(_) = digit(*c) else {
-            return false;
-        };
-    }
-    true
-}
-
-// One name each: what stands after it and its equals sign.
-fn after_towers(field: &[u8]) -> Option<&[u8]>
-    ensures { MatchOption result ((v : List ℕ) → field.now ≢ codes "towers=" ++ v) (λ v. field.now ≡ codes "towers=" ++ v.now) }
-{
-    match field {
-        [b't', b'o', b'w', b'e', b'r', b's', b'=', value @ ..] => Some(value),
-        _ => None,
-    }
-}
-
-fn after_homes(field: &[u8]) -> Option<&[u8]>
-    ensures { MatchOption result ((v : List ℕ) → field.now ≢ codes "homes=" ++ v) (λ v. field.now ≡ codes "homes=" ++ v.now) }
-{
-    match field {
-        [b'h', b'o', b'm', b'e', b's', b'=', value @ ..] => Some(value),
-        _ => None,
-    }
-}
-
-fn after_depth(field: &[u8]) -> Option<&[u8]>
-    ensures { MatchOption result ((v : List ℕ) → field.now ≢ codes "depth=" ++ v) (λ v. field.now ≡ codes "depth=" ++ v.now) }
-{
-    match field {
-        [b'd', b'e', b'p', b't', b'h', b'=', value @ ..] => Some(value),
-        _ => None,
-    }
-}
-
-fn after_book(field: &[u8]) -> Option<&[u8]>
-    ensures { MatchOption result ((v : List ℕ) → field.now ≢ codes "book=" ++ v) (λ v. field.now ≡ codes "book=" ++ v.now) }
-{
-    match field {
-        [b'b', b'o', b'o', b'k', b'=', value @ ..] => Some(value),
-        _ => None,
-    }
-}
-
-fn after_tower(field: &[u8]) -> Option<&[u8]>
-    ensures { MatchOption result ((v : List ℕ) → field.now ≢ codes "tower=" ++ v) (λ v. field.now ≡ codes "tower=" ++ v.now) }
-{
-    match field {
-        [b't', b'o', b'w', b'e', b'r', b'=', value @ ..] => Some(value),
-        _ => None,
-    }
-}
-
-fn after_tx(field: &[u8]) -> Option<&[u8]>
-    ensures { MatchOption result ((v : List ℕ) → field.now ≢ codes "tx=" ++ v) (λ v. field.now ≡ codes "tx=" ++ v.now) }
-{
-    match field {
-        [b't', b'x', b'=', value @ ..] => Some(value),
-        _ => None,
-    }
-}
-
-fn after_key(field: &[u8]) -> Option<&[u8]>
-    ensures { MatchOption result ((v : List ℕ) → field.now ≢ codes "key=" ++ v) (λ v. field.now ≡ codes "key=" ++ v.now) }
-{
-    match field {
-        [b'k', b'e', b'y', b'=', value @ ..] => Some(value),
-        _ => None,
-    }
-}
-
-fn after_value(field: &[u8]) -> Option<&[u8]>
-    ensures { MatchOption result ((v : List ℕ) → field.now ≢ codes "value=" ++ v) (λ v. field.now ≡ codes "value=" ++ v.now) }
-{
-    match field {
-        [b'v', b'a', b'l', b'u', b'e', b'=', value @ ..] => Some(value),
-        _ => None,
-    }
-}
-
-fn after_msg(field: &[u8]) -> Option<&[u8]>
-    ensures { MatchOption result ((v : List ℕ) → field.now ≢ codes "msg=" ++ v) (λ v. field.now ≡ codes "msg=" ++ v.now) }
-{
-    match field {
-        [b'm', b's', b'g', b'=', value @ ..] => Some(value),
-        _ => None,
-    }
+    row.iter().all(|b| digit(*b).is_some())
 }
 
 // What stands in a field after the name and its equals sign.
 pub fn value_after<'a>(field: &'a [u8], name: Name) -> Option<&'a [u8]>
     ensures { MatchOption result ((v : List ℕ) → field.now ≢ named name ++ v) (λ v. field.now ≡ named name ++ v.now) }
 {
-    match name {
-        Name::Towers => after_towers(field),
-        Name::Homes => after_homes(field),
-        Name::Depth => after_depth(field),
-        Name::Book => after_book(field),
-        Name::Tower => after_tower(field),
-        Name::Tx => after_tx(field),
-        Name::Key => after_key(field),
-        Name::Value => after_value(field),
-        Name::Msg => after_msg(field),
+    match (name, field) {
+        (Name::Towers, [b't', b'o', b'w', b'e', b'r', b's', b'=', value @ ..])
+        | (Name::Homes, [b'h', b'o', b'm', b'e', b's', b'=', value @ ..])
+        | (Name::Depth, [b'd', b'e', b'p', b't', b'h', b'=', value @ ..])
+        | (Name::Book, [b'b', b'o', b'o', b'k', b'=', value @ ..])
+        | (Name::Tower, [b't', b'o', b'w', b'e', b'r', b'=', value @ ..])
+        | (Name::Tx, [b't', b'x', b'=', value @ ..])
+        | (Name::Key, [b'k', b'e', b'y', b'=', value @ ..])
+        | (Name::Value, [b'v', b'a', b'l', b'u', b'e', b'=', value @ ..])
+        | (Name::Msg, [b'm', b's', b'g', b'=', value @ ..]) => Some(value),
+        _ => None,
     }
 }

@@ -6,23 +6,18 @@ ghost use Rattle.script.specs.Readers.{Reads, Took, rest};
 use super::Fields;
 use crate::Command;
 use faults::Fault;
-use words::{Name, Verb, verb_named};
+use words::{Name, Verb};
 
 impl<'a> Fields<'a> {
     // The call that the next field names.
     pub(crate) fn verb(&mut self) -> Option<Verb>
         ensures { MatchOption result (Uncalled (rest self.old)) (λ k. Took self.old self.new (called k)) }
     {
-        let Some(field) = self.field() else {
-            return None;
-        };
+        let field = self.field()?;
         let [b'd', b'o', b'=', word @ ..] = field.bytes else {
             return None;
         };
-        let Some(verb) = verb_named(word) else {
-            return None;
-        };
-        Some(verb)
+        Verb::try_from(word).ok()
     }
 
     fn opening(&mut self) -> Result<Command<'a>, Fault>

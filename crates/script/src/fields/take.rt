@@ -9,23 +9,7 @@ ghost use Rattle.script.specs.Limits.{text_limit};
 
 use super::Fields;
 use faults::{Cause, Fault};
-use words::{BookKind, Name, all_digits, book_named, number, value_after};
-
-// Where the field that starts at `from` ends.
-fn field_end(line: &[u8], from: usize) -> usize
-    requires { from ≤ length line.now }
-    ensures within { (from ≤ result) × (result ≤ length line.now) }
-    ensures cuts { left line.now from ≡ record { start = from; bytes = take (result - from) (drop from line.now) } ∷ left line.now (result + 1) }
-{
-    let mut end = from;
-    while end < line.len() {
-        match line[end] {
-            b' ' => break,
-            _ => end += 1,
-        }
-    }
-    end
-}
+use words::{BookKind, Name, all_digits, number, value_after};
 
 // A part of a line: the place where its field starts, and its bytes.
 #[derive(Clone, Copy)]
@@ -59,15 +43,11 @@ impl<'a> Fields<'a> {
         ensures { MatchOption result (Ended self.old self.new) (λ x. (x.start ≡ self.old.at) × Took self.old self.new x.bytes.now) }
     {
         let start = self.at;
-        let line = self.line;
-        if start > line.len() {
-            return None;
-        }
-        let end = field_end(line, start);
-        self.at = end + 1;
+        let bytes = self.line.get(start..)?.split(|b| matches!(b, b' ')).next()?;
+        self.at += bytes.len() + 1;
         Some(Part {
             start: start as u32,
-            bytes: &line[start..end],
+            bytes,
         })
     }
 
@@ -122,7 +102,7 @@ impl<'a> Fields<'a> {
         ensures { MatchResult result (λ b. Took self.old self.new (named Name.Book ++ book_word b)) (λ f. BadAt self.old a_book f) }
     {
         let value = self.value(Name::Book)?;
-        let Some(book) = book_named(value.bytes) else {
+        let Ok(book) = BookKind::try_from(value.bytes) else {
             return Err(value.fault(Cause::Call));
         };
         Ok(book)

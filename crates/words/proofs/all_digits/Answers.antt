@@ -1,15 +1,10 @@
-use Rattle.std.proofs.Common.{refl, subst, arith, rules}
-use Rattle.std.specs.Str.Parse.{AllDigits}
-use Rattle.std.proofs.lemmas.Int.Digits.{digits_more}
-use Rattle.std.proofs.lemmas.List.{take_all}
-use Rattle.words.proofs.Numbers.{no_digit}
+use Rattle.std.proofs.Common.{rules, ◌<◌, ◌≤◌}
+use Rattle.std.specs.Char.{digit_value}
+use Rattle.std.proofs.lemmas.Iterator.{YieldsList-from_slice, cases_from_all}
+use Rattle.words.proofs.Numbers.{digits_decided}
 use Rattle.words.proofs.all_digits.Goals as goal
 
-pub returns-in_default : goal.returns-in_default
-returns-in_default c = (λ e. absurd (search rules), λ d. absurd (no_digit c.args.row.now c.loop-c.c-index (omega arith) c.in_default.ensures d))
-
-pub loop-c-preserved : goal.loop-c-preserved
-loop-c-preserved c = search (rules, digits_more)
-
 pub returns : goal.returns
-returns c = (λ _. subst (AllDigits 10) (take_all c.loop-c.c-index c.args.row.now (omega arith)) c.loop-c.invariant, λ _. refl)
+returns c =
+    digits_decided c.all.result c.args.row.now
+    (cases_from_all _ _ _ (λ b. digit_value b < 10) (λ b. 10 ≤ digit_value b) c.all.ensures.ran (YieldsList-from_slice c.args.row.now cc) (λ x q k. search rules) (λ x q k. search rules))
