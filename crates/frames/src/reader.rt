@@ -13,7 +13,7 @@ use super::writer::write;
 use super::{ENTRY, FIXED, HEAD, LINE};
 use clocks::{Clock, TOWERS, Version};
 use faults::{Cause, Fault};
-use messages::{Body, Conflict, Drafts, Kind, Line, Message, Objection, Outcome, Vote};
+use messages::{Body, Conflict, Drafts, Grant, Kind, Line, Message, Objection};
 
 fn clock_at(b: &[u8]) -> Clock
     requires { entry_size * tower_limit ≤ length b.now }
@@ -69,31 +69,31 @@ fn conflict_at(mark: u8, line: &Line) -> Conflict
     }
 }
 
-fn vote_at(mark: u8, n: usize, b: &[u8]) -> Vote
+fn vote_at(mark: u8, n: usize, b: &[u8]) -> Option<Objection>
     requires { line_size * n ≤ length b.now }
     ensures { result ≡ vote_at mark n b.now }
 {
     if n == 0 {
-        return Vote::Yes;
+        return None;
     }
     let line = line_at(b);
-    Vote::No(Objection {
+    Some(Objection {
         key: line.key,
         conflict: conflict_at(mark, &line),
     })
 }
 
-fn outcome_at(mark: u8, number: u32, n: usize, b: &[u8]) -> Outcome
+fn outcome_at(mark: u8, number: u32, n: usize, b: &[u8]) -> Option<Grant>
     requires { (n ≤ line_limit) × (line_size * n ≤ length b.now) }
     ensures { result ≡ outcome_at mark number n b.now }
 {
     if mark == 1 {
-        Outcome::Granted {
+        Some(Grant {
             number,
             drafts: drafts_at(n, b),
-        }
+        })
     } else {
-        Outcome::Refused
+        None
     }
 }
 
@@ -114,8 +114,12 @@ fn body_at(kind: Kind, mark: u8, number: u32, n: usize, b: &[u8]) -> Body
             }
         }
         Kind::Prepare => Body::Prepare(drafts_at(n, b)),
-        Kind::Vote => Body::Vote(vote_at(mark, n, b)),
-        Kind::Outcome => Body::Outcome(outcome_at(mark, number, n, b)),
+        Kind::Vote => Body::Vote {
+            against: vote_at(mark, n, b),
+        },
+        Kind::Outcome => Body::Outcome {
+            granted: outcome_at(mark, number, n, b),
+        },
     }
 }
 

@@ -10,10 +10,8 @@ use Rattle.messages.specs.declared.Drafts.{Drafts}
 use Rattle.messages.specs.declared.Line.{Line}
 use Rattle.messages.specs.declared.Conflict.{Conflict}
 use Rattle.messages.specs.declared.Conflict.TheVariants.{Held, Newer, Full}
-use Rattle.messages.specs.declared.Vote.TheVariants.{Yes, No}
-use Rattle.messages.specs.declared.Outcome.TheVariants.{Granted, Refused}
 use Rattle.messages.specs.declared.Body.{Body}
-use Rattle.messages.specs.declared.Body.TheVariants.{Query, Answer, Prepare, Vote as Voted, Outcome as Decided}
+use Rattle.messages.specs.declared.Body.TheVariants.{Query, Answer, Prepare, Vote, Outcome}
 use Rattle.messages.specs.declared.Message.{Message}
 
 -- the writer of a version, and a version, as a frame can name them
@@ -47,10 +45,10 @@ abbrev pub fit_body : Body → Bool
 fit_body (Query key first) = true
 fit_body (Answer key shown) = fit_shown shown
 fit_body (Prepare drafts) = nat_le 1 drafts.len && fit_drafts drafts
-fit_body (Voted Yes) = true
-fit_body (Voted (No objection)) = fit_conflict objection.conflict
-fit_body (Decided (Granted number drafts)) = nat_le 1 number && fit_drafts drafts
-fit_body (Decided Refused) = true
+fit_body (Vote None) = true
+fit_body (Vote (Some objection)) = fit_conflict objection.conflict
+fit_body (Outcome (Some grant)) = nat_le 1 grant.number && fit_drafts grant.drafts
+fit_body (Outcome None) = true
 
 abbrev pub rules : Message → Bool
 rules m = nat_lt m.sender tower_limit && (nat_lt m.receiver tower_limit && (nat_lt m.tx transaction_limit && fit_body m.body))
@@ -68,9 +66,9 @@ abbrev pub Places : Body → Type 0
 Places (Query key first) = Unit {0}
 Places (Answer key shown) = Unit {0}
 Places (Prepare drafts) = length drafts.items ≡ line_limit
-Places (Voted vote) = Unit {0}
-Places (Decided (Granted number drafts)) = length drafts.items ≡ line_limit
-Places (Decided Refused) = Unit {0}
+Places (Vote against) = Unit {0}
+Places (Outcome (Some grant)) = length grant.drafts.items ≡ line_limit
+Places (Outcome None) = Unit {0}
 
 pub record Typed (m : Message) : Type 0 where
   pub entries : length m.clock.entries ≡ tower_limit

@@ -52,27 +52,22 @@ pub struct Objection {
     pub conflict: Conflict,
 }
 
+// What a granted transaction has: a number, its count at its origin from 1, and what it writes.
 #[derive(Clone, Copy)]
-pub enum Vote {
-    Yes,
-    No(Objection),
+pub struct Grant {
+    pub number: u32,
+    pub drafts: Drafts,
 }
 
-// How a transaction ended. A granted one has a number, its count at its origin from 1.
-#[derive(Clone, Copy)]
-pub enum Outcome {
-    Granted { number: u32, drafts: Drafts },
-    Refused,
-}
-
-// What a message says, by its kind. A query is the first of its transaction or not; an answer shows a version or blank.
+// What a message says, by its kind. A query is the first of its transaction or not; an answer shows a version or blank;
+// a vote names what it has against the transaction, or nothing; an outcome grants or refuses.
 #[derive(Clone, Copy)]
 pub enum Body {
     Query { key: u8, first: bool },
     Answer { key: u8, shown: Option<Version> },
     Prepare(Drafts),
-    Vote(Vote),
-    Outcome(Outcome),
+    Vote { against: Option<Objection> },
+    Outcome { granted: Option<Grant> },
 }
 
 // The kinds of messages.

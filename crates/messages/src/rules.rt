@@ -2,7 +2,7 @@
 ghost use Rattle.std.specs.Prelude.{◌≡◌};
 ghost use Rattle.messages.specs.Rules.{fit_writer, fit_version, is_blank, all_blank, fit_drafts, fit_shown, fit_conflict, fit_body, rules, valid};
 
-use super::{Body, Conflict, Draft, Drafts, LINES, Message, Outcome, TRANSACTIONS, Vote};
+use super::{Body, Conflict, Draft, Drafts, LINES, Message, TRANSACTIONS};
 use clocks::{TOWERS, Version};
 
 fn fits_writer(origin: u8, writer: u16) -> bool
@@ -70,9 +70,13 @@ fn fits_body(body: &Body) -> bool
     match body {
         Body::Answer { shown, .. } => fits_shown(shown),
         Body::Prepare(drafts) => 1 <= drafts.len && fits_drafts(drafts),
-        Body::Vote(Vote::No(objection)) => fits_conflict(&objection.conflict),
-        Body::Outcome(Outcome::Granted { number, drafts }) => 1 <= *number && fits_drafts(drafts),
-        Body::Query { .. } | Body::Vote(Vote::Yes) | Body::Outcome(Outcome::Refused) => true,
+        Body::Vote {
+            against: Some(objection),
+        } => fits_conflict(&objection.conflict),
+        Body::Outcome {
+            granted: Some(grant),
+        } => 1 <= grant.number && fits_drafts(&grant.drafts),
+        Body::Query { .. } | Body::Vote { against: None } | Body::Outcome { granted: None } => true,
     }
 }
 

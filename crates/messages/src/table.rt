@@ -5,7 +5,7 @@ ghost use Rattle.messages.specs.Limits.{line_limit};
 ghost use Rattle.messages.specs.Table.{kind_number, kind_at, kind_word, allows, kind_of, conflict_mark, mark_of, number_of, key_line, draft_line, shown_line, conflict_line, lines_of};
 ghost use Rattle.messages.specs.Rules.{Places};
 
-use super::{Body, Conflict, Draft, Drafts, Kind, LINES, Line, Objection, Outcome, Vote};
+use super::{Body, Conflict, Draft, Drafts, Kind, LINES, Line, Objection};
 use clocks::{Content, Version};
 
 impl Kind {
@@ -151,8 +151,8 @@ impl Body {
             Body::Query { .. } => Kind::Query,
             Body::Answer { .. } => Kind::Answer,
             Body::Prepare(_) => Kind::Prepare,
-            Body::Vote(_) => Kind::Vote,
-            Body::Outcome(_) => Kind::Outcome,
+            Body::Vote { .. } => Kind::Vote,
+            Body::Outcome { .. } => Kind::Outcome,
         }
     }
 
@@ -164,10 +164,12 @@ impl Body {
             Body::Answer { shown: Some(_), .. } => 1,
             Body::Answer { shown: None, .. } => 0,
             Body::Prepare(_) => 0,
-            Body::Vote(Vote::Yes) => 0,
-            Body::Vote(Vote::No(objection)) => objection.conflict.mark(),
-            Body::Outcome(Outcome::Granted { .. }) => 1,
-            Body::Outcome(Outcome::Refused) => 0,
+            Body::Vote {
+                against: Some(objection),
+            } => objection.conflict.mark(),
+            Body::Vote { against: None } => 0,
+            Body::Outcome { granted: Some(_) } => 1,
+            Body::Outcome { granted: None } => 0,
         }
     }
 
@@ -176,7 +178,9 @@ impl Body {
         ensures { result ≡ number_of self.now }
     {
         match self {
-            Body::Outcome(Outcome::Granted { number, .. }) => *number,
+            Body::Outcome {
+                granted: Some(grant),
+            } => grant.number,
             _ => 0,
         }
     }
@@ -188,10 +192,12 @@ impl Body {
         ensures places { Places self.now }
     {
         match self {
-            Body::Query { .. } | Body::Answer { .. } | Body::Vote(Vote::No(_)) => 1,
+            Body::Query { .. } | Body::Answer { .. } | Body::Vote { against: Some(_) } => 1,
             Body::Prepare(drafts) => drafts.len(),
-            Body::Outcome(Outcome::Granted { drafts, .. }) => drafts.len(),
-            Body::Vote(Vote::Yes) | Body::Outcome(Outcome::Refused) => 0,
+            Body::Outcome {
+                granted: Some(grant),
+            } => grant.drafts.len(),
+            Body::Vote { against: None } | Body::Outcome { granted: None } => 0,
         }
     }
 
@@ -202,11 +208,14 @@ impl Body {
         match self {
             Body::Query { key, .. } => only_line(key_line(*key), index),
             Body::Answer { key, shown } => only_line(shown_line(*key, shown), index),
-            Body::Prepare(drafts) | Body::Outcome(Outcome::Granted { drafts, .. }) => {
-                drafts.line(index)
-            }
-            Body::Vote(Vote::No(objection)) => only_line(objection_line(objection), index),
-            Body::Vote(Vote::Yes) | Body::Outcome(Outcome::Refused) => None,
+            Body::Prepare(drafts) => drafts.line(index),
+            Body::Vote {
+                against: Some(objection),
+            } => only_line(objection_line(objection), index),
+            Body::Outcome {
+                granted: Some(grant),
+            } => grant.drafts.line(index),
+            Body::Vote { against: None } | Body::Outcome { granted: None } => None,
         }
     }
 }

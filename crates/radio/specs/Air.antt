@@ -6,10 +6,8 @@ use Rattle.clocks.specs.declared.Content.{Content}
 use Rattle.messages.specs.Limits.{line_limit, transaction_limit}
 use Rattle.messages.specs.Drafting.{counted, drafts_of}
 use Rattle.messages.specs.declared.Message.{Message as Sent}
-use Rattle.messages.specs.declared.Vote.TheVariants.{Yes, No}
-use Rattle.messages.specs.declared.Outcome.TheVariants.{Granted, Refused}
 use Rattle.messages.specs.declared.Body.{Body as SentBody}
-use Rattle.messages.specs.declared.Body.TheVariants.{Query, Answer, Prepare, Vote as Voted, Outcome as Decided}
+use Rattle.messages.specs.declared.Body.TheVariants.{Query, Answer, Prepare, Vote, Outcome}
 use Rattle.frames.specs.Layout.{frame_of}
 use Rattle.frames.specs.Answers.{read_of}
 use Rattle.laws.specs.Net.{Clock, Body, query, answer, prepare, vote, granted, refused, Message, Net}
@@ -26,10 +24,9 @@ abbrev pub sent_body : Body → SentBody
 sent_body (query key first) = Query key first
 sent_body (answer key shown) = Answer key shown
 sent_body (prepare lines) = Prepare (drafts_of lines)
-sent_body (vote None) = Voted Yes
-sent_body (vote (Some against)) = Voted (No against)
-sent_body (granted number lines) = Decided (Granted number (drafts_of lines))
-sent_body refused = Decided Refused
+sent_body (vote against) = Vote against
+sent_body (granted number lines) = Outcome (Some (record { number = number; drafts = drafts_of lines }))
+sent_body refused = Outcome None
 
 abbrev pub sent_as : Message → Sent
 sent_as m = record { sender = m.from; receiver = m.to; tx = m.tx; clock = record { entries = entries_of tower_limit m.bound }; body = sent_body m.body }
@@ -39,10 +36,9 @@ abbrev pub heard_body : SentBody → Body
 heard_body (Query key first) = query key first
 heard_body (Answer key shown) = answer key shown
 heard_body (Prepare drafts) = prepare (counted drafts)
-heard_body (Voted Yes) = vote None
-heard_body (Voted (No against)) = vote (Some against)
-heard_body (Decided (Granted number drafts)) = granted number (counted drafts)
-heard_body (Decided Refused) = refused
+heard_body (Vote against) = vote against
+heard_body (Outcome (Some grant)) = granted grant.number (counted grant.drafts)
+heard_body (Outcome None) = refused
 
 abbrev pub heard_as : Result Sent Fault → Option Message
 heard_as (Ok m) = Some (record { tx = m.tx; from = m.sender; to = m.receiver; bound = λ j. slice_index m.clock.entries j; body = heard_body m.body })
