@@ -19,7 +19,7 @@ pub(crate) fn head_bytes(m: &Message) -> [u8; HEAD]
     let t = m.tx.to_le_bytes();
     let n = m.body.number().to_le_bytes();
     [
-        m.body.kind().number(),
+        m.body.kind().into(),
         m.sender,
         m.receiver,
         m.body.lines() as u8,

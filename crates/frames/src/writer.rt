@@ -70,10 +70,8 @@ impl Frame {
         ensures typed { AllByRecursion TypedLine (lines_of body.now) }
         ensures places { Places body.now }
     {
-        for i in 0..body.lines() {
-            if let Some(line) = body.line(i) {
-                self.add(&line_bytes(&line));
-            }
+        for line in body.iter() {
+            self.add(&line_bytes(&line));
         }
     }
 }

@@ -1,6 +1,6 @@
 -- Which messages have a frame: `valid` has the rules of the format, and `Typed` the ranges that the types of the fields give.
 use Rattle.std.specs.Prelude.{◌≡◌, ℕ, ◌^◌, ◌<◌, Bool, true, ◌&&◌, List, [], ◌∷◌, length, drop, Some, None, Option, ◌==◌, nat_le, nat_lt}
-use Rattle.std.specs.List.{AllByRecursion}
+use Rattle.std.specs.List.{AllByRecursion, list_all}
 use Rattle.clocks.specs.Clocks.{tower_limit}
 use Rattle.clocks.specs.declared.Version.{Version}
 use Rattle.messages.specs.Limits.{line_limit, transaction_limit}
@@ -26,8 +26,7 @@ abbrev pub is_blank : Draft → Bool
 is_blank d = d.key == 0 && d.content.value == 0
 
 abbrev pub all_blank : List Draft → Bool
-all_blank [] = true
-all_blank (d ∷ ds) = is_blank d && all_blank ds
+all_blank ds = list_all is_blank ds
 
 abbrev pub fit_drafts : Drafts → Bool
 fit_drafts d = nat_le d.len line_limit && all_blank (drop d.len d.items)

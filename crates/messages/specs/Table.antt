@@ -1,11 +1,16 @@
 -- The table of the kinds: what stands in the fields of each message.
-use Rattle.std.specs.Prelude.{ℕ, Bool, cond, ◌&&◌, List, [], ◌∷◌, map, Some, None, codes, Option, ◌==◌, nat_le}
+use Rattle.std.specs.Prelude.{ℕ, Bool, cond, ◌&&◌, List, [], ◌∷◌, map, Some, None, codes, Option, Result, ◌==◌, nat_le}
+use Rattle.std.specs.Option.{ok_or}
+use Rattle.faults.specs.Table.{plain}
+use Rattle.faults.specs.declared.Fault.{Fault}
+use Rattle.faults.specs.declared.Cause.TheVariants.{Kind as NoKind}
 use Rattle.clocks.specs.declared.Content.{Content}
 use Rattle.clocks.specs.declared.Version.{Version}
 use Rattle.messages.specs.Limits.{line_limit}
 use Rattle.messages.specs.Drafting.{nothing, counted}
 use Rattle.messages.specs.declared.Draft.{Draft}
 use Rattle.messages.specs.declared.Line.{Line}
+use Rattle.messages.specs.declared.Lines.{Lines}
 use Rattle.messages.specs.declared.Conflict.{Conflict}
 use Rattle.messages.specs.declared.Conflict.TheVariants.{Held, Newer, Full}
 use Rattle.messages.specs.declared.Kind.{Kind}
@@ -29,6 +34,10 @@ kind_at byte =
     (cond (byte == 3) (Some PrepareKind)
     (cond (byte == 4) (Some VoteKind)
     (cond (byte == 5) (Some OutcomeKind) None))))
+
+-- the same, or the fault of a number that no kind has
+abbrev pub kind_named : ℕ → Result Kind Fault
+kind_named byte = ok_or (kind_at byte) (plain NoKind)
 
 abbrev pub kind_word : Kind → List ℕ
 kind_word QueryKind = codes "query"
@@ -103,3 +112,11 @@ lines_of (Vote None) = []
 lines_of (Vote (Some objection)) = conflict_line objection.key objection.conflict ∷ []
 lines_of (Outcome (Some grant)) = map draft_line (counted grant.drafts)
 lines_of (Outcome None) = []
+
+-- the lines that are still to come, of one line and a line for each draft
+abbrev pub with_drafts : Option Line → List Draft → List Line
+with_drafts None ds = map draft_line ds
+with_drafts (Some l) ds = l ∷ map draft_line ds
+
+abbrev pub lines_left : Lines → List Line
+lines_left s = with_drafts s.only s.drafts.now

@@ -99,3 +99,10 @@ pub struct Line {
     pub number: u32,
     pub content: Content,
 }
+
+// The lines of a message that are still to come: one line, or a line for each draft.
+#[derive(Drop)]
+pub struct Lines<'a> {
+    only: Option<Line>,
+    drafts: &'a [Draft],
+}

@@ -26,12 +26,7 @@ fn is_blank(draft: &Draft) -> bool
 fn all_blank(drafts: &[Draft]) -> bool
     ensures { result ≡ all_blank drafts.now }
 {
-    for draft in drafts {
-        if !is_blank(draft) {
-            return false;
-        }
-    }
-    true
+    drafts.iter().all(is_blank)
 }
 
 fn fits_drafts(drafts: &Drafts) -> bool
