@@ -1,5 +1,5 @@
 -- Which messages have a frame: `valid` has the rules of the format, and `Typed` the ranges that the types of the fields give.
-use Rattle.std.specs.Prelude.{◌≡◌, ℕ, ◌^◌, ◌<◌, Bool, true, ◌&&◌, List, [], ◌∷◌, length, drop, Some, None, Option, ◌==◌, nat_le, nat_lt}
+use Rattle.std.specs.Prelude.{◌≡◌, ℕ, ◌^◌, ◌<◌, Bool, true, ◌&&◌, List, length, drop, Some, None, Option, ◌==◌, nat_le, nat_lt}
 use Rattle.std.specs.List.{AllByRecursion, list_all}
 use Rattle.clocks.specs.Clocks.{tower_limit}
 use Rattle.clocks.specs.declared.Version.{Version}

@@ -95,6 +95,10 @@ key_line key = line_with key 0 0 0 nothing
 abbrev pub draft_line : Draft → Line
 draft_line d = line_with d.key 0 0 0 d.content
 
+-- the draft whose line it is
+abbrev pub draft_in : Line → Draft
+draft_in l = record { key = l.key; content = l.content }
+
 abbrev pub shown_line : ℕ → Option Version → Line
 shown_line key None = key_line key
 shown_line key (Some v) = line_with key v.origin v.writer v.number v.content

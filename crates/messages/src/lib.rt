@@ -16,7 +16,7 @@ pub const LINES: usize = 8;
 pub const TRANSACTIONS: u16 = 1024;
 
 // What a transaction wants to write under a key.
-#[derive(Clone, Copy)]
+#[derive(Clone, Copy, PartialEq, Default)]
 pub struct Draft {
     pub key: u8,
     pub content: Content,
@@ -91,7 +91,7 @@ pub struct Message {
 }
 
 // A line of a message. Which of its fields a message uses depends on its kind; the others are 0.
-#[derive(Clone, Copy)]
+#[derive(Clone, Copy, Default)]
 pub struct Line {
     pub key: u8,
     pub origin: u8,

@@ -20,7 +20,7 @@ fn fits_version(origin: u8, writer: u16, number: u32) -> bool
 fn is_blank(draft: &Draft) -> bool
     ensures { result ≡ is_blank draft.now }
 {
-    draft.key == 0 && draft.content.value == 0
+    *draft == Draft::default()
 }
 
 fn all_blank(drafts: &[Draft]) -> bool
@@ -33,7 +33,7 @@ fn fits_drafts(drafts: &Drafts) -> bool
     ensures { result ≡ fit_drafts drafts.now }
 {
     let n = drafts.len as usize;
-    n <= LINES && all_blank(&drafts.items[n..LINES])
+    n <= LINES && all_blank(&drafts.items[n..])
 }
 
 fn fits_shown(shown: &Option<Version>) -> bool

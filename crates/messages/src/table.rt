@@ -4,11 +4,11 @@ ghost use Rattle.std.specs.Iterator.{YieldsFirst, item_count};
 ghost use Rattle.std.specs.List.{slice_get};
 ghost use Rattle.messages.specs.Drafting.{counted};
 ghost use Rattle.messages.specs.Limits.{line_limit};
-ghost use Rattle.messages.specs.Table.{kind_number, kind_named, kind_word, allows, kind_of, conflict_mark, mark_of, number_of, key_line, draft_line, shown_line, conflict_line, lines_of, lines_left};
+ghost use Rattle.messages.specs.Table.{kind_number, kind_named, kind_word, allows, kind_of, conflict_mark, mark_of, number_of, key_line, draft_line, draft_in, shown_line, conflict_line, lines_of, lines_left};
 ghost use Rattle.messages.specs.Rules.{Places};
 
 use super::{Body, Conflict, Draft, Drafts, Kind, LINES, Line, Lines, Objection};
-use clocks::{Content, Version};
+use clocks::Version;
 use faults::{Cause, Fault};
 use std::fmt;
 
@@ -34,7 +34,7 @@ impl TryFrom<u8> for Kind {
             3 => Ok(Kind::Prepare),
             4 => Ok(Kind::Vote),
             5 => Ok(Kind::Outcome),
-            _ => Err(Fault::plain(Cause::Kind)),
+            _ => Err(Cause::Kind.into()),
         }
     }
 }
@@ -87,22 +87,32 @@ fn key_line(key: u8) -> Line
 {
     Line {
         key,
-        origin: 0,
-        writer: 0,
-        number: 0,
-        content: Content { value: 0 },
+        ..Line::default()
     }
 }
 
-fn draft_line(draft: &Draft) -> Line
-    ensures { result ≡ draft_line draft.now }
-{
-    Line {
-        key: draft.key,
-        origin: 0,
-        writer: 0,
-        number: 0,
-        content: draft.content,
+// The line of a draft.
+impl From<&Draft> for Line {
+    ghost from_gives = { λ draft line. line ≡ draft_line draft.now };
+
+    fn from(draft: &Draft) -> Line {
+        Line {
+            key: draft.key,
+            content: draft.content,
+            ..Line::default()
+        }
+    }
+}
+
+// The draft whose line it is.
+impl From<Line> for Draft {
+    ghost from_gives = { λ line draft. draft ≡ draft_in line };
+
+    fn from(line: Line) -> Draft {
+        Draft {
+            key: line.key,
+            content: line.content,
+        }
     }
 }
 
@@ -124,28 +134,24 @@ fn shown_line(key: u8, shown: &Option<Version>) -> Line
 fn objection_line(objection: &Objection) -> Line
     ensures { result ≡ conflict_line objection.now.key objection.now.conflict }
 {
-    let key = objection.key;
-    let content = Content { value: 0 };
+    let line = key_line(objection.key);
     match objection.conflict {
         Conflict::Held { origin, writer } => Line {
-            key,
             origin,
             writer,
-            number: 0,
-            content,
+            ..line
         },
         Conflict::Newer {
             origin,
             writer,
             number,
         } => Line {
-            key,
             origin,
             writer,
             number,
-            content,
+            ..line
         },
-        Conflict::Full => key_line(key),
+        Conflict::Full => line,
     }
 }
 
@@ -275,6 +281,6 @@ impl Iterator for Lines<'_> {
         }
         let (first, others) = self.drafts.split_first()?;
         self.drafts = others;
-        Some(draft_line(first))
+        Some(first.into())
     }
 }
