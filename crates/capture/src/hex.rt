@@ -49,10 +49,10 @@ pub fn interpret(heap: Global, line: &[u8]) -> Result<Result<Message, Fault>, Al
     ensures { IfOk result (λ m. m ≡ said line.now) }
 {
     if line.is_empty() {
-        return Ok(Err(Fault::plain(Cause::Number)));
+        return Ok(Err(Cause::Number.into()));
     }
     let Some(bytes) = decode(heap, line)? else {
-        return Ok(Err(Fault::plain(Cause::Number)));
+        return Ok(Err(Cause::Number.into()));
     };
     Ok(read(bytes.as_slice()))
 }

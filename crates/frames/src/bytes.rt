@@ -75,9 +75,5 @@ pub(crate) fn draft_at(b: &[u8]) -> Draft
     requires { line_size ≤ length b.now }
     ensures { result ≡ draft_at b.now }
 {
-    let line = line_at(b);
-    Draft {
-        key: line.key,
-        content: line.content,
-    }
+    line_at(b).into()
 }

@@ -162,14 +162,14 @@ fn sized(bytes: &[u8]) -> Result<Kind, Fault>
     ensures { result ≡ sized_of bytes.now }
 {
     if bytes.len() < FIXED {
-        return Err(Fault::plain(Cause::Length));
+        return Err(Cause::Length.into());
     }
     let kind = Kind::try_from(bytes[0])?;
     let n = bytes[3] as usize;
     if kind.allows(n) && bytes.len() == FIXED + LINE * n {
         Ok(kind)
     } else {
-        Err(Fault::plain(Cause::Length))
+        Err(Cause::Length.into())
     }
 }
 
@@ -194,6 +194,6 @@ pub fn read(bytes: &[u8]) -> Result<Message, Fault>
     if is_frame(&message, bytes) {
         Ok(message)
     } else {
-        Err(Fault::plain(Cause::FrameField))
+        Err(Cause::FrameField.into())
     }
 }
