@@ -10,6 +10,7 @@ use messages::{Body, Line, Message};
 use std::alloc::{AllocError, Global};
 use std::fmt::Write;
 
+#[tactic(auto, unfolding(crate::specs::Text::head_text))]
 fn head_text(heap: Global, m: &Message) -> Result<String, AllocError>
     ensures { IfOk result (λ s. string_bytes s ≡ head_text m.now) }
 {
@@ -44,6 +45,7 @@ fn add_clock(out: &mut String, clock: &[u32]) -> Result<(), AllocError>
     add_entries(out, rest)
 }
 
+#[tactic(auto, unfolding(crate::specs::Text::line_text))]
 fn add_line(out: &mut String, line: &Line) -> Result<(), AllocError>
     ensures { OnOk result (string_bytes out.new ≡ string_bytes out.old ++ line_text line.now) }
 {
@@ -82,6 +84,7 @@ fn said_text(heap: Global, said: &Result<Message, Fault>) -> Result<String, Allo
     }
 }
 
+#[tactic(auto, unfolding(crate::specs::Text::numbered))]
 fn number_line(heap: Global, n: u64, text: &str) -> Result<String, AllocError>
     ensures { IfOk result (λ s. string_bytes s ≡ numbered n text.now) }
 {
