@@ -1,6 +1,6 @@
 // The rules that a message keeps.
 ghost use Rattle.std.specs.Prelude.{◌≡◌};
-ghost use Rattle.messages.specs.Rules.{fit_writer, fit_version, is_blank, all_blank, fit_drafts, fit_shown, fit_conflict, fit_body, rules, valid};
+ghost use Rattle.messages.specs.Rules.{fit_writer, fit_version, is_blank, all_blank, fit_drafts, fit_shown, fit_conflict, fit_body, valid};
 
 use super::{Body, Conflict, Draft, Drafts, LINES, Message, TRANSACTIONS};
 use clocks::{TOWERS, Version};
@@ -39,10 +39,7 @@ fn fits_drafts(drafts: &Drafts) -> bool
 fn fits_shown(shown: &Option<Version>) -> bool
     ensures { result ≡ fit_shown shown.now }
 {
-    match shown {
-        Some(version) => fits_version(version.origin, version.writer, version.number),
-        None => true,
-    }
+    shown.is_none_or(|version| fits_version(version.origin, version.writer, version.number))
 }
 
 fn fits_conflict(conflict: &Conflict) -> bool
@@ -75,20 +72,15 @@ fn fits_body(body: &Body) -> bool
     }
 }
 
-fn keeps_rules(message: &Message) -> bool
-    ensures { result ≡ rules message.now }
-{
-    (message.sender as usize) < TOWERS
-        && (message.receiver as usize) < TOWERS
-        && message.tx < TRANSACTIONS
-        && fits_body(&message.body)
-}
-
 impl Message {
     // Whether the message keeps the rules, and so has a frame.
+    #[tactic(auto, unfolding(crate::specs::Rules::valid))]
     pub fn is_valid(&self) -> bool
         ensures { result ≡ valid self.now }
     {
-        keeps_rules(self)
+        (self.sender as usize) < TOWERS
+            && (self.receiver as usize) < TOWERS
+            && self.tx < TRANSACTIONS
+            && fits_body(&self.body)
     }
 }
