@@ -31,12 +31,12 @@ fn pair(high: u8, low: u8) -> Option<u8>
 fn decode(heap: Global, text: &[u8]) -> Result<Option<Vec<u8>>, AllocError>
     ensures { IfOk result (λ o. option_map vec_items o ≡ spelled text.now) }
 {
-    if text.len() % 2 != 0 {
+    let (pairs, []) = text.as_chunks::<2>() else {
         return Ok(None);
-    }
-    let mut bytes = Vec::with_capacity(heap, text.len() / 2)?;
-    for i in 0..text.len() / 2 {
-        let Some(byte) = pair(text[2 * i], text[2 * i + 1]) else {
+    };
+    let mut bytes = Vec::with_capacity(heap, pairs.len())?;
+    for [high, low] in pairs {
+        let Some(byte) = pair(*high, *low) else {
             return Ok(None);
         };
         bytes.push(byte)?;
@@ -49,10 +49,10 @@ pub fn interpret(heap: Global, line: &[u8]) -> Result<Result<Message, Fault>, Al
     ensures { IfOk result (λ m. m ≡ said line.now) }
 {
     if line.is_empty() {
-        return Ok(Err(Fault::plain(Cause::Number)));
+        return Ok(Err(Cause::Number.into()));
     }
-    match decode(heap, line)? {
-        Some(bytes) => Ok(read(bytes.as_slice())),
-        None => Ok(Err(Fault::plain(Cause::Number))),
-    }
+    let Some(bytes) = decode(heap, line)? else {
+        return Ok(Err(Cause::Number.into()));
+    };
+    Ok(read(bytes.as_slice()))
 }

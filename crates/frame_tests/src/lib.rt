@@ -5,7 +5,7 @@
 mod tests {
     use clocks::{Clock, Content, TOWERS};
     use frames::{read, write};
-    use messages::{Body, Draft, Drafts, LINES, Message, Outcome};
+    use messages::{Body, Draft, Drafts, Grant, LINES, Message};
     use std::test::Fail;
 
     fn draft(key: u8, value: u32) -> Draft {
@@ -25,7 +25,9 @@ mod tests {
             receiver: 0,
             tx,
             clock: Clock { entries },
-            body: Body::Outcome(Outcome::Granted { number: 2, drafts }),
+            body: Body::Outcome {
+                granted: Some(Grant { number: 2, drafts }),
+            },
         }
     }
 

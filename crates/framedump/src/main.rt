@@ -6,15 +6,10 @@ use std::io;
 use std::io::{BufRead, BufReader, BufWriter, Write};
 
 fn main(rt: HostRuntime) -> io::Result<()> {
-    let mut input = BufReader::new(rt.alloc(), rt.stdin())?;
+    let input = BufReader::new(rt.alloc(), rt.stdin())?;
     let mut output = BufWriter::new(rt.alloc(), rt.stdout())?;
-    let mut line = Vec::new(rt.alloc());
-    for n in 1..u64::MAX {
-        line.clear();
-        if input.read_until(b'\n', &mut line)? == 0 {
-            break;
-        }
-        let text = describe(rt.alloc(), n, line.as_slice())?;
+    for (n, line) in (1..u64::MAX).zip(input.split(rt.alloc(), b'\n')) {
+        let text = describe(rt.alloc(), n, line?.as_slice())?;
         output.write_all(text.as_bytes())?;
     }
     output.flush()

@@ -17,10 +17,8 @@ use Rattle.frames.specs.Answers.{framed, bytes_of, written, SizedAs, Reads, OneM
 use Rattle.messages.specs.declared.Drafts.{Drafts}
 use Rattle.messages.specs.declared.Kind.{Kind}
 use Rattle.messages.specs.declared.Kind.TheVariants.{Query as QueryKind, Answer as AnswerKind, Prepare as PrepareKind, Vote as VoteKind, Outcome as OutcomeKind}
-use Rattle.messages.specs.declared.Vote.TheVariants.{Yes, No}
-use Rattle.messages.specs.declared.Outcome.TheVariants.{Granted, Refused}
 use Rattle.messages.specs.declared.Body.{Body}
-use Rattle.messages.specs.declared.Body.TheVariants.{Query, Answer, Prepare, Vote as Voted, Outcome as Decided}
+use Rattle.messages.specs.declared.Body.TheVariants.{Query, Answer, Prepare, Vote, Outcome}
 use Rattle.messages.specs.declared.Message.{Message}
 use Rattle.frames.specs.declared.hold.Frame.{Frame}
 use Rattle.messages.proofs.Fitting.{few, count_is, rules_of}
@@ -58,12 +56,12 @@ allowed (Prepare d) h p =
     let a = and_parts (leb 1 d.len) (fit_drafts d) h in
     ap (λ n. leb 1 n && leb n line_limit) (drafts_count d a.1 p)
     ∙ and_from (leb 1 d.len) (leb d.len line_limit) a.0 (le-leb d.len line_limit (few d a.1 p))
-allowed (Voted Yes) h p = refl
-allowed (Voted (No o)) h p = refl
-allowed (Decided (Granted n d)) h p =
-    let a = and_parts (leb 1 n) (fit_drafts d) h in
-    ap (λ n. leb n line_limit) (drafts_count d a.1 p) ∙ le-leb d.len line_limit (few d a.1 p)
-allowed (Decided Refused) h p = refl
+allowed (Vote None) h p = refl
+allowed (Vote (Some o)) h p = refl
+allowed (Outcome (Some g)) h p =
+    let a = and_parts (leb 1 g.number) (fit_drafts g.drafts) h in
+    ap (λ n. leb n line_limit) (drafts_count g.drafts a.1 p) ∙ le-leb g.drafts.len line_limit (few g.drafts a.1 p)
+allowed (Outcome None) h p = refl
 
 -- bytes of the length of their kind
 module _ (bs : List ℕ) (long : fixed_size tower_limit ≤ length bs) where

@@ -1,7 +1,8 @@
 -- Things of equal width that are read from bytes, one after another.
-use Rattle.std.proofs.Common.{◌≡◌, ℕ, zero, suc, ◌+◌, ◌-◌, ◌*◌, ◌<◌, List, [], ◌∷◌, ◌++◌, length, take, drop, set, replicate, sym, refl, ap, ◌∙◌, append_assoc, mul-zero, mul-suc, mul-add, add-one, arith, length-append}
+use Rattle.std.proofs.Common.{◌≡◌, ℕ, zero, suc, ◌*◌, ◌<◌, List, [], ◌∷◌, ◌++◌, length, get_or, map, take, drop, sym, refl, ap, ◌∙◌, append_assoc, mul-zero, mul-suc, mul-add, arith, length-append}
 use Rattle.std.specs.List.{flat_map, AllByRecursion}
-use Rattle.std.proofs.lemmas.List.{drop-drop, drop_at, set_at, take_rest}
+use Rattle.std.proofs.lemmas.List.{drop-drop, drop_at}
+use Rattle.std.specs.Simd.{first_chunks}
 use Rattle.frames.specs.Bytes.{cut}
 
 module _ {X : Type 0} (g : List ℕ → X) (w : ℕ) where
@@ -15,13 +16,21 @@ module _ {X : Type 0} (g : List ℕ → X) (w : ℕ) where
       let e : drop (w * n) (drop w bs) ≡ drop (w * suc n) bs = drop-drop (w * n) w bs ∙ ap (λ k. drop k bs) (omega (arith, mul-suc w n)) in
       ap (λ r. g bs ∷ r) (cut-more n (drop w bs) ∙ ap (λ r. cut g w n (drop w bs) ++ g r ∷ []) e)
 
-  -- one place more of an array of `most`: y is read from `&bs[w * n..]`
-  pub fill : (most n : ℕ) (bs : List ℕ) (z : X) (xs : List X) (y : X) → n < most → xs ≡ cut g w n bs ++ replicate (most - n) z → y ≡ g (take (length bs - w * n) (drop (w * n) bs)) → set xs n y ≡ cut g w (n + 1) bs ++ replicate (most - (n + 1)) z
-  fill most n bs z xs y h e f =
-      let k : most - n ≡ suc (most - (n + 1)) = omega arith in
-      let p : y ≡ g (drop (w * n) bs) = f ∙ ap g (take_rest bs (w * n)) in
-      rw (e, p, k, set_at (cut g w n bs) z (replicate (most - (n + 1)) z) (g (drop (w * n) bs)) n (length_cut n bs), add-one n)
-      (sym (append_assoc (cut g w n bs) (g (drop (w * n) bs) ∷ []) _) ∙ ap (λ q. q ++ replicate (most - suc n) z) (sym (cut-more n bs)))
+  -- by their places
+  pub cut_at : (n : ℕ) (bs : List ℕ) (xs : List X) (z : X) → length xs ≡ n → ((i : ℕ) → i < n → get_or xs i z ≡ g (drop (w * i) bs)) → xs ≡ cut g w n bs
+  cut_at zero bs [] z l h = refl
+  cut_at zero bs (x ∷ xs) z l h = absurd (let e : ⊥ = omega arith in e)
+  cut_at (suc n) bs [] z l h = absurd (let e : ⊥ = omega arith in e)
+  cut_at (suc n) bs (x ∷ xs) z l h =
+      let first : x ≡ g bs = h 0 (omega arith) ∙ ap (λ k. g (drop k bs)) (mul-zero w) in
+      let rest : xs ≡ cut g w n (drop w bs) =
+      cut_at n (drop w bs) xs z (omega arith) (λ i k. h (suc i) (omega arith) ∙ ap g (sym (drop-drop (w * i) w bs ∙ ap (λ m. drop m bs) (omega (arith, mul-suc w i))))) in
+      ap (λ y. y ∷ xs) first ∙ ap (λ ys. g bs ∷ ys) rest
+
+  -- each is read from a chunk of its own
+  pub cut_chunks : ((b : List ℕ) → g (take w b) ≡ g b) → (n : ℕ) (bs : List ℕ) → map g (first_chunks w n bs) ≡ cut g w n bs
+  cut_chunks e zero bs = refl
+  cut_chunks e (suc n) bs = ap (λ x. x ∷ map g (first_chunks w n (drop w bs))) (e bs) ∙ ap (λ xs. g bs ∷ xs) (cut_chunks e n (drop w bs))
 
 -- things that are written one after another
 module _ {X : Type 0} (f : X → List ℕ) (w : ℕ) (wide : (x : X) → length (f x) ≡ w) where

@@ -17,10 +17,8 @@ use Rattle.messages.specs.declared.Draft.{Draft}
 use Rattle.messages.specs.declared.Drafts.{Drafts}
 use Rattle.messages.specs.declared.Conflict.{Conflict}
 use Rattle.messages.specs.declared.Conflict.TheVariants.{Held, Newer, Full}
-use Rattle.messages.specs.declared.Vote.TheVariants.{Yes, No}
-use Rattle.messages.specs.declared.Outcome.TheVariants.{Granted, Refused}
 use Rattle.messages.specs.declared.Body.{Body}
-use Rattle.messages.specs.declared.Body.TheVariants.{Query, Answer, Prepare, Vote as Voted, Outcome as Decided}
+use Rattle.messages.specs.declared.Body.TheVariants.{Query, Answer, Prepare, Vote, Outcome}
 use Rattle.messages.specs.declared.Message.{Message}
 use Rattle.messages.proofs.Fitting.{neat, rules_of}
 use Rattle.frames.proofs.Cuts.{length_joined, cut_joined}
@@ -72,7 +70,7 @@ drafts-back d fit places typed =
     ap drafts_of lines ∙ sym (neat d fit places)
 
 -- a vote against
-vote-back : (key : ℕ) (c : Conflict) → TypedLine (conflict_line key c) → vote_at (conflict_mark c) 1 (flat_map line_bytes (conflict_line key c ∷ [])) ≡ No (record { key = key; conflict = c })
+vote-back : (key : ℕ) (c : Conflict) → TypedLine (conflict_line key c) → vote_at (conflict_mark c) 1 (flat_map line_bytes (conflict_line key c ∷ [])) ≡ Some (record { key = key; conflict = c })
 vote-back key (Held o w) t = rw (half_back w t.writer)
 vote-back key (Newer o w n) t = rw (half_back w t.writer, word_back n t.number)
 vote-back key Full t = refl
@@ -83,10 +81,10 @@ body_back (Query key false) h p t = refl
 body_back (Answer key None) h p t = refl
 body_back (Answer key (Some v)) h p t = rw (half_back v.writer t.0.writer, word_back v.number t.0.number, word_back v.content.value t.0.value)
 body_back (Prepare d) h p t = ap (λ x. Prepare x) (drafts-back d (and_parts (leb 1 d.len) (fit_drafts d) h).1 p t)
-body_back (Voted Yes) h p t = refl
-body_back (Voted (No o)) h p t = ap (λ v. Voted v) (vote-back o.key o.conflict t.0)
-body_back (Decided (Granted n d)) h p t = ap (λ x. Decided (Granted n x)) (drafts-back d (and_parts (leb 1 n) (fit_drafts d) h).1 p t)
-body_back (Decided Refused) h p t = refl
+body_back (Vote None) h p t = refl
+body_back (Vote (Some o)) h p t = ap (λ v. Vote v) (vote-back o.key o.conflict t.0)
+body_back (Outcome (Some g)) h p t = ap (λ (x : Drafts). Outcome (Some (record { number = g.number; drafts = x }))) (drafts-back g.drafts (and_parts (leb 1 g.number) (fit_drafts g.drafts) h).1 p t)
+body_back (Outcome None) h p t = refl
 
 -- the length of a frame
 pub frame_length : (m : Message) (e : ℕ) → length m.clock.entries ≡ e → length (frame_of m) ≡ frame_size e (length (lines_of m.body))

@@ -9,14 +9,12 @@ use Rattle.messages.specs.declared.Drafts.{Drafts}
 use Rattle.messages.specs.declared.Line.{Line}
 use Rattle.messages.specs.declared.Conflict.{Conflict}
 use Rattle.messages.specs.declared.Conflict.TheVariants.{Held, Newer, Full}
-use Rattle.messages.specs.declared.Vote.{Vote}
-use Rattle.messages.specs.declared.Vote.TheVariants.{Yes, No}
-use Rattle.messages.specs.declared.Outcome.{Outcome}
-use Rattle.messages.specs.declared.Outcome.TheVariants.{Granted, Refused}
+use Rattle.messages.specs.declared.Objection.{Objection}
+use Rattle.messages.specs.declared.Grant.{Grant}
 use Rattle.messages.specs.declared.Kind.{Kind}
 use Rattle.messages.specs.declared.Kind.TheVariants.{Query as QueryKind, Answer as AnswerKind, Prepare as PrepareKind, Vote as VoteKind, Outcome as OutcomeKind}
 use Rattle.messages.specs.declared.Body.{Body}
-use Rattle.messages.specs.declared.Body.TheVariants.{Query, Answer, Prepare, Vote as Voted, Outcome as Decided}
+use Rattle.messages.specs.declared.Body.TheVariants.{Query, Answer, Prepare, Vote, Outcome}
 use Rattle.messages.specs.declared.Message.{Message}
 
 abbrev pub line_at : List ℕ → Line
@@ -39,18 +37,18 @@ conflict_at mark l =
     cond (mark == 1) (Held l.origin l.writer)
     (cond (mark == 2) (Newer l.origin l.writer l.number) Full)
 
-abbrev pub vote_at : ℕ → ℕ → List ℕ → Vote
-vote_at mark n bs = cond (n == 0) Yes (No (record { key = (line_at bs).key; conflict = conflict_at mark (line_at bs) }))
+abbrev pub vote_at : ℕ → ℕ → List ℕ → Option Objection
+vote_at mark n bs = cond (n == 0) None (Some (record { key = (line_at bs).key; conflict = conflict_at mark (line_at bs) }))
 
-abbrev pub outcome_at : ℕ → ℕ → ℕ → List ℕ → Outcome
-outcome_at mark number n bs = cond (mark == 1) (Granted number (drafts_at n bs)) Refused
+abbrev pub outcome_at : ℕ → ℕ → ℕ → List ℕ → Option Grant
+outcome_at mark number n bs = cond (mark == 1) (Some (record { number = number; drafts = drafts_at n bs })) None
 
 abbrev pub body_at : Kind → ℕ → ℕ → ℕ → List ℕ → Body
 body_at QueryKind mark number n bs = Query (line_at bs).key (mark == 1)
 body_at AnswerKind mark number n bs = Answer (line_at bs).key (shown_at mark (line_at bs))
 body_at PrepareKind mark number n bs = Prepare (drafts_at n bs)
-body_at VoteKind mark number n bs = Voted (vote_at mark n bs)
-body_at OutcomeKind mark number n bs = Decided (outcome_at mark number n bs)
+body_at VoteKind mark number n bs = Vote (vote_at mark n bs)
+body_at OutcomeKind mark number n bs = Outcome (outcome_at mark number n bs)
 
 -- the bytes of the frame's fields
 abbrev pub kind_byte : List ℕ → ℕ

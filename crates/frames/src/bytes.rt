@@ -19,7 +19,7 @@ pub(crate) fn head_bytes(m: &Message) -> [u8; HEAD]
     let t = m.tx.to_le_bytes();
     let n = m.body.number().to_le_bytes();
     [
-        m.body.kind().number(),
+        m.body.kind().into(),
         m.sender,
         m.receiver,
         m.body.lines() as u8,
@@ -75,9 +75,5 @@ pub(crate) fn draft_at(b: &[u8]) -> Draft
     requires { line_size ≤ length b.now }
     ensures { result ≡ draft_at b.now }
 {
-    let line = line_at(b);
-    Draft {
-        key: line.key,
-        content: line.content,
-    }
+    line_at(b).into()
 }

@@ -5,7 +5,7 @@ ghost use Rattle.messages.specs.Limits.{line_limit};
 ghost use Rattle.frames.specs.Sizes.{entry_size, line_size};
 ghost use Rattle.messages.specs.Table.{allows};
 ghost use Rattle.messages.specs.Rules.{Typed};
-ghost use Rattle.frames.specs.Candidate.{drafts_at, clock_at, shown_at, conflict_at, vote_at, outcome_at, body_at, message_at};
+ghost use Rattle.frames.specs.Candidate.{clock_at, message_at};
 ghost use Rattle.frames.specs.Answers.{SizedAs, sized_of, is_frame, read_of, Reads};
 
 use super::bytes::{draft_at, line_at, word_at};
@@ -13,109 +13,123 @@ use super::writer::write;
 use super::{ENTRY, FIXED, HEAD, LINE};
 use clocks::{Clock, TOWERS, Version};
 use faults::{Cause, Fault};
-use messages::{Body, Conflict, Drafts, Kind, Line, Message, Objection, Outcome, Vote};
+use messages::{Body, Conflict, Drafts, Grant, Kind, Line, Message, Objection};
+use std::array;
 
-fn clock_at(b: &[u8]) -> Clock
-    requires { entry_size * tower_limit ≤ length b.now }
-    ensures { result.entries ≡ clock_at tower_limit b.now }
+fn clock_at(bytes: &[u8]) -> Clock
+    requires { entry_size * tower_limit ≤ length bytes.now }
+    ensures { result.entries ≡ clock_at tower_limit bytes.now }
 {
-    let mut entries = [0; TOWERS];
-    for i in 0..TOWERS {
-        entries[i] = word_at(&b[ENTRY * i..]);
+    Clock {
+        entries: array::from_fn(|i| word_at(&bytes[ENTRY * i..])),
     }
-    Clock { entries }
 }
 
-fn drafts_at(n: usize, b: &[u8]) -> Drafts
-    requires { (n ≤ line_limit) × (line_size * n ≤ length b.now) }
-    ensures { result ≡ drafts_at n b.now }
-{
-    let mut drafts = Drafts::new();
-    for i in 0..n {
-        let _ = drafts.push(draft_at(&b[LINE * i..]));
-    }
-    drafts
+// The parts of a frame that its body is read from: kind, mark and number, how many lines it has, and their bytes.
+#[derive(Drop)]
+struct Parts<'a> {
+    kind: Kind,
+    mark: u8,
+    number: u32,
+    count: usize,
+    lines: &'a [u8],
+    ghost allowed: { allows kind count ≡ true },
+    ghost few: { count ≤ line_limit },
+    ghost long: { length lines.now ≡ line_size * count },
 }
 
-fn shown_at(mark: u8, line: &Line) -> Option<Version>
-    ensures { result ≡ shown_at mark line.now }
-{
-    if mark == 1 {
+impl Parts<'_> {
+    ghost use Rattle.frames.specs.Candidate.{drafts_at, shown_at, conflict_at, vote_at, outcome_at, body_at};
+
+    fn drafts(&self) -> Drafts
+        ensures { result ≡ drafts_at self.now.count self.now.lines.now }
+    {
+        let mut drafts = Drafts::new();
+        for line in self.lines.as_chunks::<LINE>().0 {
+            let _ = drafts.push(draft_at(line));
+        }
+        drafts
+    }
+
+    fn shown(&self, line: &Line) -> Option<Version>
+        ensures { result ≡ shown_at self.now.mark line.now }
+    {
+        if self.mark != 1 {
+            return None;
+        }
         Some(Version {
             writer: line.writer,
             origin: line.origin,
             number: line.number,
             content: line.content,
         })
-    } else {
-        None
     }
-}
 
-fn conflict_at(mark: u8, line: &Line) -> Conflict
-    ensures { result ≡ conflict_at mark line.now }
-{
-    match mark {
-        1 => Conflict::Held {
-            origin: line.origin,
-            writer: line.writer,
-        },
-        2 => Conflict::Newer {
-            origin: line.origin,
-            writer: line.writer,
-            number: line.number,
-        },
-        _ => Conflict::Full,
-    }
-}
-
-fn vote_at(mark: u8, n: usize, b: &[u8]) -> Vote
-    requires { line_size * n ≤ length b.now }
-    ensures { result ≡ vote_at mark n b.now }
-{
-    if n == 0 {
-        return Vote::Yes;
-    }
-    let line = line_at(b);
-    Vote::No(Objection {
-        key: line.key,
-        conflict: conflict_at(mark, &line),
-    })
-}
-
-fn outcome_at(mark: u8, number: u32, n: usize, b: &[u8]) -> Outcome
-    requires { (n ≤ line_limit) × (line_size * n ≤ length b.now) }
-    ensures { result ≡ outcome_at mark number n b.now }
-{
-    if mark == 1 {
-        Outcome::Granted {
-            number,
-            drafts: drafts_at(n, b),
+    fn conflict(&self, line: &Line) -> Conflict
+        ensures { result ≡ conflict_at self.now.mark line.now }
+    {
+        match self.mark {
+            1 => Conflict::Held {
+                origin: line.origin,
+                writer: line.writer,
+            },
+            2 => Conflict::Newer {
+                origin: line.origin,
+                writer: line.writer,
+                number: line.number,
+            },
+            _ => Conflict::Full,
         }
-    } else {
-        Outcome::Refused
     }
-}
 
-fn body_at(kind: Kind, mark: u8, number: u32, n: usize, b: &[u8]) -> Body
-    requires { (allows kind n ≡ true) × (line_size * n ≤ length b.now) }
-    ensures { result ≡ body_at kind mark number n b.now }
-{
-    match kind {
-        Kind::Query => Body::Query {
-            key: line_at(b).key,
-            first: mark == 1,
-        },
-        Kind::Answer => {
-            let line = line_at(b);
-            Body::Answer {
-                key: line.key,
-                shown: shown_at(mark, &line),
+    fn vote(&self) -> Option<Objection>
+        ensures { result ≡ vote_at self.now.mark self.now.count self.now.lines.now }
+    {
+        if self.count == 0 {
+            return None;
+        }
+        let line = line_at(self.lines);
+        Some(Objection {
+            key: line.key,
+            conflict: self.conflict(&line),
+        })
+    }
+
+    fn outcome(&self) -> Option<Grant>
+        ensures { result ≡ outcome_at self.now.mark self.now.number self.now.count self.now.lines.now }
+    {
+        if self.mark != 1 {
+            return None;
+        }
+        Some(Grant {
+            number: self.number,
+            drafts: self.drafts(),
+        })
+    }
+
+    fn body(&self) -> Body
+        ensures { result ≡ body_at self.now.kind self.now.mark self.now.number self.now.count self.now.lines.now }
+    {
+        match self.kind {
+            Kind::Query => Body::Query {
+                key: line_at(self.lines).key,
+                first: self.mark == 1,
+            },
+            Kind::Answer => {
+                let line = line_at(self.lines);
+                Body::Answer {
+                    key: line.key,
+                    shown: self.shown(&line),
+                }
             }
+            Kind::Prepare => Body::Prepare(self.drafts()),
+            Kind::Vote => Body::Vote {
+                against: self.vote(),
+            },
+            Kind::Outcome => Body::Outcome {
+                granted: self.outcome(),
+            },
         }
-        Kind::Prepare => Body::Prepare(drafts_at(n, b)),
-        Kind::Vote => Body::Vote(vote_at(mark, n, b)),
-        Kind::Outcome => Body::Outcome(outcome_at(mark, number, n, b)),
     }
 }
 
@@ -124,15 +138,22 @@ fn message_at(kind: Kind, bytes: &[u8]) -> Message
     requires { SizedAs kind bytes.now }
     ensures { result ≡ message_at tower_limit kind bytes.now }
 {
-    let [_, sender, receiver, n, t0, t1, mark, _, rest @ ..] = bytes else {
+    let [_, sender, receiver, count, t0, t1, mark, _, rest @ ..] = bytes else {
         return unreachable();
+    };
+    let parts = Parts {
+        kind,
+        mark: *mark,
+        number: word_at(rest),
+        count: *count as usize,
+        lines: &bytes[FIXED..],
     };
     Message {
         sender: *sender,
         receiver: *receiver,
         tx: u16::from_le_bytes([*t0, *t1]),
         clock: clock_at(&bytes[HEAD..]),
-        body: body_at(kind, *mark, word_at(rest), *n as usize, &bytes[FIXED..]),
+        body: parts.body(),
     }
 }
 
@@ -141,16 +162,14 @@ fn sized(bytes: &[u8]) -> Result<Kind, Fault>
     ensures { result ≡ sized_of bytes.now }
 {
     if bytes.len() < FIXED {
-        return Err(Fault::plain(Cause::Length));
+        return Err(Cause::Length.into());
     }
-    let Some(kind) = Kind::of(bytes[0]) else {
-        return Err(Fault::plain(Cause::Kind));
-    };
+    let kind = Kind::try_from(bytes[0])?;
     let n = bytes[3] as usize;
     if kind.allows(n) && bytes.len() == FIXED + LINE * n {
         Ok(kind)
     } else {
-        Err(Fault::plain(Cause::Length))
+        Err(Cause::Length.into())
     }
 }
 
@@ -175,6 +194,6 @@ pub fn read(bytes: &[u8]) -> Result<Message, Fault>
     if is_frame(&message, bytes) {
         Ok(message)
     } else {
-        Err(Fault::plain(Cause::FrameField))
+        Err(Cause::FrameField.into())
     }
 }

@@ -15,22 +15,16 @@ use super::hold::Frame;
 use faults::{Cause, Fault};
 use messages::{Body, Message, front};
 
-fn zeros() -> Frame
-    ensures { (result.bytes ≡ replicate most_bytes 0) × (result.len ≡ 0) }
-{
-    Frame {
-        bytes: [0; MOST],
-        len: 0,
-    }
-}
-
 impl Frame {
     // A frame without bytes.
     pub fn blank() -> Frame
         ensures value { result ≡ framed [] }
         ensures len { result.len ≡ 0 }
     {
-        zeros()
+        Frame {
+            bytes: [0; MOST],
+            len: 0,
+        }
     }
 
     // The bytes of the frame.
@@ -70,10 +64,8 @@ impl Frame {
         ensures typed { AllByRecursion TypedLine (lines_of body.now) }
         ensures places { Places body.now }
     {
-        for i in 0..body.lines() {
-            if let Some(line) = body.line(i) {
-                self.add(&line_bytes(&line));
-            }
+        for line in body.iter() {
+            self.add(&line_bytes(&line));
         }
     }
 }
@@ -86,7 +78,7 @@ pub fn write(message: &Message) -> Result<Frame, Fault>
     ensures one { OneMessage }
 {
     if !message.is_valid() {
-        return Err(Fault::plain(Cause::FrameField));
+        return Err(Cause::FrameField.into());
     }
     let mut frame = Frame::blank();
     frame.add(&head_bytes(message));

@@ -1,9 +1,6 @@
 -- Lists of drafts.
-use Rattle.std.proofs.Common.{◌≡◌, ℕ, zero, suc, ◌+◌, ◌-◌, ◌<◌, List, [], ◌∷◌, ◌++◌, map, length, get_or, take, set, replicate, Some, None, Ok, Err, Result, sym, refl, ap, ◌∙◌, append_assoc, add-one, arith}
+use Rattle.std.proofs.Common.{◌≡◌, ℕ, ◌+◌, ◌-◌, ◌<◌, List, [], ◌∷◌, ◌++◌, length, take, set, replicate, Ok, Err, Result, sym, refl, ap, ◌∙◌, append_assoc, add-one, arith}
 use Rattle.std.proofs.lemmas.List.{take_at, length-take, length_push, set_at, take_more_set}
-use Rattle.std.specs.Option.{option_map}
-use Rattle.std.proofs.lemmas.Option.{slice_get-get_or}
-use Rattle.std.specs.List.{slice_get}
 use Rattle.messages.specs.Limits.{line_limit}
 use Rattle.messages.specs.Drafting.{counted, blank, drafts_of, Neat, Pushed}
 use Rattle.faults.specs.declared.Fault.{Fault}
@@ -36,24 +33,6 @@ module _ (s : Drafts) (d : Draft) (n : ℕ) (same : n ≡ length (counted s)) (l
       let whole : set s.items n d ≡ (cs ++ d ∷ []) ++ replicate (line_limit - length (cs ++ d ∷ [])) blank =
       put ∙ sym (append_assoc cs (d ∷ []) rest) ∙ ap (λ k. (cs ++ d ∷ []) ++ replicate (line_limit - k) blank) (sym long) in
       drafts_made (set s.items n d) (n + 1) (cs ++ d ∷ []) whole (sym long) ∙ ap drafts_of (sym push_counted)
-
-pub nth_map : {X Y : Type 0} (f : X → Y) (xs : List X) (i : ℕ) → slice_get (map f xs) i ≡ option_map f (slice_get xs i)
-nth_map f [] i = refl
-nth_map f (x ∷ xs) zero = refl
-nth_map f (x ∷ xs) (suc i) = nth_map f xs i
-
-absent : {X : Type 0} (xs : List X) (i : ℕ) → i < length xs → slice_get xs i ≡ None → ⊥
-absent [] i h e = omega arith
-absent (x ∷ xs) zero h e = let z : ◌≡◌ {A = ℕ} 0 1 = cc in omega arith
-absent (x ∷ xs) (suc i) h e = absent xs i (omega arith) e
-
--- what stands at an index, and what the list is up to it
-module _ {X : Type 0} (xs : List X) (i : ℕ) (less : i < length xs) where
-  pub get_or-nth : (x : X) → slice_get xs i ≡ Some x → get_or xs i x ≡ x
-  get_or-nth x e = let f : slice_get xs i ≡ Some (get_or xs i x) = slice_get-get_or xs i x less in cc
-
-  pub nth_some : slice_get xs i ≡ None → ⊥
-  nth_some e = absent xs i less e
 
 -- the drafts of a list, and a list with one draft more
 pub counted_of : (ds : List Draft) → counted (drafts_of ds) ≡ ds

@@ -1,6 +1,6 @@
 -- Which messages have a frame: `valid` has the rules of the format, and `Typed` the ranges that the types of the fields give.
-use Rattle.std.specs.Prelude.{◌≡◌, ℕ, ◌^◌, ◌<◌, Bool, true, ◌&&◌, List, [], ◌∷◌, length, drop, Some, None, Option, ◌==◌, nat_le, nat_lt}
-use Rattle.std.specs.List.{AllByRecursion}
+use Rattle.std.specs.Prelude.{◌≡◌, ℕ, ◌^◌, ◌<◌, Bool, true, ◌&&◌, List, length, drop, Some, None, Option, ◌==◌, nat_le, nat_lt}
+use Rattle.std.specs.List.{AllByRecursion, list_all}
 use Rattle.clocks.specs.Clocks.{tower_limit}
 use Rattle.clocks.specs.declared.Version.{Version}
 use Rattle.messages.specs.Limits.{line_limit, transaction_limit}
@@ -10,10 +10,8 @@ use Rattle.messages.specs.declared.Drafts.{Drafts}
 use Rattle.messages.specs.declared.Line.{Line}
 use Rattle.messages.specs.declared.Conflict.{Conflict}
 use Rattle.messages.specs.declared.Conflict.TheVariants.{Held, Newer, Full}
-use Rattle.messages.specs.declared.Vote.TheVariants.{Yes, No}
-use Rattle.messages.specs.declared.Outcome.TheVariants.{Granted, Refused}
 use Rattle.messages.specs.declared.Body.{Body}
-use Rattle.messages.specs.declared.Body.TheVariants.{Query, Answer, Prepare, Vote as Voted, Outcome as Decided}
+use Rattle.messages.specs.declared.Body.TheVariants.{Query, Answer, Prepare, Vote, Outcome}
 use Rattle.messages.specs.declared.Message.{Message}
 
 -- the writer of a version, and a version, as a frame can name them
@@ -28,8 +26,7 @@ abbrev pub is_blank : Draft → Bool
 is_blank d = d.key == 0 && d.content.value == 0
 
 abbrev pub all_blank : List Draft → Bool
-all_blank [] = true
-all_blank (d ∷ ds) = is_blank d && all_blank ds
+all_blank ds = list_all is_blank ds
 
 abbrev pub fit_drafts : Drafts → Bool
 fit_drafts d = nat_le d.len line_limit && all_blank (drop d.len d.items)
@@ -47,10 +44,10 @@ abbrev pub fit_body : Body → Bool
 fit_body (Query key first) = true
 fit_body (Answer key shown) = fit_shown shown
 fit_body (Prepare drafts) = nat_le 1 drafts.len && fit_drafts drafts
-fit_body (Voted Yes) = true
-fit_body (Voted (No objection)) = fit_conflict objection.conflict
-fit_body (Decided (Granted number drafts)) = nat_le 1 number && fit_drafts drafts
-fit_body (Decided Refused) = true
+fit_body (Vote None) = true
+fit_body (Vote (Some objection)) = fit_conflict objection.conflict
+fit_body (Outcome (Some grant)) = nat_le 1 grant.number && fit_drafts grant.drafts
+fit_body (Outcome None) = true
 
 abbrev pub rules : Message → Bool
 rules m = nat_lt m.sender tower_limit && (nat_lt m.receiver tower_limit && (nat_lt m.tx transaction_limit && fit_body m.body))
@@ -68,9 +65,9 @@ abbrev pub Places : Body → Type 0
 Places (Query key first) = Unit {0}
 Places (Answer key shown) = Unit {0}
 Places (Prepare drafts) = length drafts.items ≡ line_limit
-Places (Voted vote) = Unit {0}
-Places (Decided (Granted number drafts)) = length drafts.items ≡ line_limit
-Places (Decided Refused) = Unit {0}
+Places (Vote against) = Unit {0}
+Places (Outcome (Some grant)) = length grant.drafts.items ≡ line_limit
+Places (Outcome None) = Unit {0}
 
 pub record Typed (m : Message) : Type 0 where
   pub entries : length m.clock.entries ≡ tower_limit

@@ -1,23 +1,10 @@
 // Lists of drafts.
 ghost use Rattle.std.specs.Prelude.{◌≡◌, ◌<◌, ◌≤◌, [], ◌∷◌, ◌++◌, length, take};
 ghost use Rattle.messages.specs.Limits.{line_limit};
-ghost use Rattle.messages.specs.Drafting.{counted, blank, drafts_of, Neat, Pushed};
+ghost use Rattle.messages.specs.Drafting.{counted, drafts_of, Neat, Pushed};
 
 use super::{Draft, Drafts, LINES};
-use clocks::Content;
 use faults::{Cause, Fault};
-
-impl Draft {
-    // What stands in a place that holds no draft.
-    pub(crate) fn blank() -> Draft
-        ensures { result ≡ blank }
-    {
-        Draft {
-            key: 0,
-            content: Content { value: 0 },
-        }
-    }
-}
 
 // The first n of the items, or all where there are fewer.
 pub fn front<T>(items: &[T], n: usize) -> &[T]
@@ -33,7 +20,7 @@ impl Drafts {
         ensures { result ≡ drafts_of [] }
     {
         Drafts {
-            items: [Draft::blank(); LINES],
+            items: [Draft::default(); LINES],
             len: 0,
         }
     }
@@ -62,7 +49,7 @@ impl Drafts {
     {
         let n = self.len();
         if n >= LINES {
-            return Err(Fault::plain(Cause::Drafts));
+            return Err(Cause::Drafts.into());
         }
         self.put(n, draft);
         Ok(())

@@ -16,7 +16,7 @@ pub const LINES: usize = 8;
 pub const TRANSACTIONS: u16 = 1024;
 
 // What a transaction wants to write under a key.
-#[derive(Clone, Copy)]
+#[derive(Clone, Copy, PartialEq, Default)]
 pub struct Draft {
     pub key: u8,
     pub content: Content,
@@ -52,27 +52,22 @@ pub struct Objection {
     pub conflict: Conflict,
 }
 
+// What a granted transaction has: a number, its count at its origin from 1, and what it writes.
 #[derive(Clone, Copy)]
-pub enum Vote {
-    Yes,
-    No(Objection),
+pub struct Grant {
+    pub number: u32,
+    pub drafts: Drafts,
 }
 
-// How a transaction ended. A granted one has a number, its count at its origin from 1.
-#[derive(Clone, Copy)]
-pub enum Outcome {
-    Granted { number: u32, drafts: Drafts },
-    Refused,
-}
-
-// What a message says, by its kind. A query is the first of its transaction or not; an answer shows a version or blank.
+// What a message says, by its kind. A query is the first of its transaction or not; an answer shows a version or blank;
+// a vote names what it has against the transaction, or nothing; an outcome grants or refuses.
 #[derive(Clone, Copy)]
 pub enum Body {
     Query { key: u8, first: bool },
     Answer { key: u8, shown: Option<Version> },
     Prepare(Drafts),
-    Vote(Vote),
-    Outcome(Outcome),
+    Vote { against: Option<Objection> },
+    Outcome { granted: Option<Grant> },
 }
 
 // The kinds of messages.
@@ -96,11 +91,18 @@ pub struct Message {
 }
 
 // A line of a message. Which of its fields a message uses depends on its kind; the others are 0.
-#[derive(Clone, Copy)]
+#[derive(Clone, Copy, Default)]
 pub struct Line {
     pub key: u8,
     pub origin: u8,
     pub writer: u16,
     pub number: u32,
     pub content: Content,
+}
+
+// The lines of a message that are still to come: one line, or a line for each draft.
+#[derive(Drop)]
+pub struct Lines<'a> {
+    only: Option<Line>,
+    drafts: &'a [Draft],
 }

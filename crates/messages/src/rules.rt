@@ -1,8 +1,8 @@
 // The rules that a message keeps.
 ghost use Rattle.std.specs.Prelude.{◌≡◌};
-ghost use Rattle.messages.specs.Rules.{fit_writer, fit_version, is_blank, all_blank, fit_drafts, fit_shown, fit_conflict, fit_body, rules, valid};
+ghost use Rattle.messages.specs.Rules.{fit_writer, fit_version, is_blank, all_blank, fit_drafts, fit_shown, fit_conflict, fit_body, valid};
 
-use super::{Body, Conflict, Draft, Drafts, LINES, Message, Outcome, TRANSACTIONS, Vote};
+use super::{Body, Conflict, Draft, Drafts, LINES, Message, TRANSACTIONS};
 use clocks::{TOWERS, Version};
 
 fn fits_writer(origin: u8, writer: u16) -> bool
@@ -20,34 +20,26 @@ fn fits_version(origin: u8, writer: u16, number: u32) -> bool
 fn is_blank(draft: &Draft) -> bool
     ensures { result ≡ is_blank draft.now }
 {
-    draft.key == 0 && draft.content.value == 0
+    *draft == Draft::default()
 }
 
 fn all_blank(drafts: &[Draft]) -> bool
     ensures { result ≡ all_blank drafts.now }
 {
-    for draft in drafts {
-        if !is_blank(draft) {
-            return false;
-        }
-    }
-    true
+    drafts.iter().all(is_blank)
 }
 
 fn fits_drafts(drafts: &Drafts) -> bool
     ensures { result ≡ fit_drafts drafts.now }
 {
     let n = drafts.len as usize;
-    n <= LINES && all_blank(&drafts.items[n..LINES])
+    n <= LINES && all_blank(&drafts.items[n..])
 }
 
 fn fits_shown(shown: &Option<Version>) -> bool
     ensures { result ≡ fit_shown shown.now }
 {
-    match shown {
-        Some(version) => fits_version(version.origin, version.writer, version.number),
-        None => true,
-    }
+    shown.is_none_or(|version| fits_version(version.origin, version.writer, version.number))
 }
 
 fn fits_conflict(conflict: &Conflict) -> bool
@@ -70,26 +62,25 @@ fn fits_body(body: &Body) -> bool
     match body {
         Body::Answer { shown, .. } => fits_shown(shown),
         Body::Prepare(drafts) => 1 <= drafts.len && fits_drafts(drafts),
-        Body::Vote(Vote::No(objection)) => fits_conflict(&objection.conflict),
-        Body::Outcome(Outcome::Granted { number, drafts }) => 1 <= *number && fits_drafts(drafts),
-        Body::Query { .. } | Body::Vote(Vote::Yes) | Body::Outcome(Outcome::Refused) => true,
+        Body::Vote {
+            against: Some(objection),
+        } => fits_conflict(&objection.conflict),
+        Body::Outcome {
+            granted: Some(grant),
+        } => 1 <= grant.number && fits_drafts(&grant.drafts),
+        Body::Query { .. } | Body::Vote { against: None } | Body::Outcome { granted: None } => true,
     }
-}
-
-fn keeps_rules(message: &Message) -> bool
-    ensures { result ≡ rules message.now }
-{
-    (message.sender as usize) < TOWERS
-        && (message.receiver as usize) < TOWERS
-        && message.tx < TRANSACTIONS
-        && fits_body(&message.body)
 }
 
 impl Message {
     // Whether the message keeps the rules, and so has a frame.
+    #[tactic(auto, unfolding(crate::specs::Rules::valid))]
     pub fn is_valid(&self) -> bool
         ensures { result ≡ valid self.now }
     {
-        keeps_rules(self)
+        (self.sender as usize) < TOWERS
+            && (self.receiver as usize) < TOWERS
+            && self.tx < TRANSACTIONS
+            && fits_body(&self.body)
     }
 }

@@ -1,47 +1,60 @@
 // The table of the kinds: number, word, mark and lines of each message.
-ghost use Rattle.std.specs.Prelude.{◌≡◌, ◌≤◌, [], ◌∷◌, length};
+ghost use Rattle.std.specs.Prelude.{◌≡◌, ◌≤◌, [], ◌∷◌, map, length, Some};
+ghost use Rattle.std.specs.Iterator.{YieldsFirst, item_count};
 ghost use Rattle.std.specs.List.{slice_get};
+ghost use Rattle.messages.specs.Drafting.{counted};
 ghost use Rattle.messages.specs.Limits.{line_limit};
-ghost use Rattle.messages.specs.Table.{kind_number, kind_at, kind_word, allows, kind_of, conflict_mark, mark_of, number_of, key_line, draft_line, shown_line, conflict_line, lines_of};
+ghost use Rattle.messages.specs.Table.{kind_number, kind_named, kind_word, allows, kind_of, conflict_mark, mark_of, number_of, key_line, draft_line, draft_in, shown_line, conflict_line, lines_of, lines_left};
 ghost use Rattle.messages.specs.Rules.{Places};
 
-use super::{Body, Conflict, Draft, Drafts, Kind, LINES, Line, Objection, Outcome, Vote};
-use clocks::{Content, Version};
+use super::{Body, Conflict, Draft, Drafts, Kind, LINES, Line, Lines, Objection};
+use clocks::Version;
+use faults::{Cause, Fault};
+use std::fmt;
 
-impl Kind {
-    pub fn number(self) -> u8
-        ensures { result ≡ kind_number self }
-    {
-        self as u8
+// The number of a kind.
+impl From<Kind> for u8 {
+    ghost from_gives = { λ kind number. number ≡ kind_number kind };
+
+    fn from(kind: Kind) -> u8 {
+        kind as u8
     }
+}
 
-    // The word that is printed for the kind.
-    pub fn word(self) -> &'static str
-        ensures { result.now ≡ kind_word self }
-    {
-        match self {
+// The kind that has a number; refused if none has it.
+impl TryFrom<u8> for Kind {
+    type Error = Fault;
+
+    ghost try_from_gives = { λ number result. result ≡ kind_named number };
+
+    fn try_from(number: u8) -> Result<Kind, Fault> {
+        match number {
+            1 => Ok(Kind::Query),
+            2 => Ok(Kind::Answer),
+            3 => Ok(Kind::Prepare),
+            4 => Ok(Kind::Vote),
+            5 => Ok(Kind::Outcome),
+            _ => Err(Cause::Kind.into()),
+        }
+    }
+}
+
+// A kind as it is printed.
+impl fmt::Display for Kind {
+    ghost output = { λ kind. Some (kind_word kind) };
+
+    fn fmt<W: fmt::Write>(&self, f: &mut fmt::Formatter<W>) -> fmt::Result {
+        f.write_str(match self {
             Kind::Query => "query",
             Kind::Answer => "answer",
             Kind::Prepare => "prepare",
             Kind::Vote => "vote",
             Kind::Outcome => "outcome",
-        }
+        })
     }
+}
 
-    // The kind that has a number.
-    pub fn of(number: u8) -> Option<Kind>
-        ensures { result ≡ kind_at number }
-    {
-        match number {
-            1 => Some(Kind::Query),
-            2 => Some(Kind::Answer),
-            3 => Some(Kind::Prepare),
-            4 => Some(Kind::Vote),
-            5 => Some(Kind::Outcome),
-            _ => None,
-        }
-    }
-
+impl Kind {
     // Whether messages of the kind may have n lines, whatever the mark.
     pub fn allows(self, n: usize) -> bool
         ensures { result ≡ allows self n }
@@ -74,22 +87,32 @@ fn key_line(key: u8) -> Line
 {
     Line {
         key,
-        origin: 0,
-        writer: 0,
-        number: 0,
-        content: Content { value: 0 },
+        ..Line::default()
     }
 }
 
-fn draft_line(draft: &Draft) -> Line
-    ensures { result ≡ draft_line draft.now }
-{
-    Line {
-        key: draft.key,
-        origin: 0,
-        writer: 0,
-        number: 0,
-        content: draft.content,
+// The line of a draft.
+impl From<&Draft> for Line {
+    ghost from_gives = { λ draft line. line ≡ draft_line draft.now };
+
+    fn from(draft: &Draft) -> Line {
+        Line {
+            key: draft.key,
+            content: draft.content,
+            ..Line::default()
+        }
+    }
+}
+
+// The draft whose line it is.
+impl From<Line> for Draft {
+    ghost from_gives = { λ line draft. draft ≡ draft_in line };
+
+    fn from(line: Line) -> Draft {
+        Draft {
+            key: line.key,
+            content: line.content,
+        }
     }
 }
 
@@ -111,36 +134,25 @@ fn shown_line(key: u8, shown: &Option<Version>) -> Line
 fn objection_line(objection: &Objection) -> Line
     ensures { result ≡ conflict_line objection.now.key objection.now.conflict }
 {
-    let key = objection.key;
-    let content = Content { value: 0 };
+    let line = key_line(objection.key);
     match objection.conflict {
         Conflict::Held { origin, writer } => Line {
-            key,
             origin,
             writer,
-            number: 0,
-            content,
+            ..line
         },
         Conflict::Newer {
             origin,
             writer,
             number,
         } => Line {
-            key,
             origin,
             writer,
             number,
-            content,
+            ..line
         },
-        Conflict::Full => key_line(key),
+        Conflict::Full => line,
     }
-}
-
-// The line at an index of a list that has one line.
-fn only_line(line: Line, index: usize) -> Option<Line>
-    ensures { result ≡ slice_get (line ∷ []) index }
-{
-    if index == 0 { Some(line) } else { None }
 }
 
 impl Body {
@@ -151,8 +163,8 @@ impl Body {
             Body::Query { .. } => Kind::Query,
             Body::Answer { .. } => Kind::Answer,
             Body::Prepare(_) => Kind::Prepare,
-            Body::Vote(_) => Kind::Vote,
-            Body::Outcome(_) => Kind::Outcome,
+            Body::Vote { .. } => Kind::Vote,
+            Body::Outcome { .. } => Kind::Outcome,
         }
     }
 
@@ -164,10 +176,12 @@ impl Body {
             Body::Answer { shown: Some(_), .. } => 1,
             Body::Answer { shown: None, .. } => 0,
             Body::Prepare(_) => 0,
-            Body::Vote(Vote::Yes) => 0,
-            Body::Vote(Vote::No(objection)) => objection.conflict.mark(),
-            Body::Outcome(Outcome::Granted { .. }) => 1,
-            Body::Outcome(Outcome::Refused) => 0,
+            Body::Vote {
+                against: Some(objection),
+            } => objection.conflict.mark(),
+            Body::Vote { against: None } => 0,
+            Body::Outcome { granted: Some(_) } => 1,
+            Body::Outcome { granted: None } => 0,
         }
     }
 
@@ -176,8 +190,30 @@ impl Body {
         ensures { result ≡ number_of self.now }
     {
         match self {
-            Body::Outcome(Outcome::Granted { number, .. }) => *number,
+            Body::Outcome {
+                granted: Some(grant),
+            } => grant.number,
             _ => 0,
+        }
+    }
+
+    // The lines, first to last.
+    pub fn iter(&self) -> Lines<'_>
+        ensures all { lines_left result ≡ lines_of self.now }
+        ensures few { length (lines_of self.now) ≤ line_limit }
+        ensures places { Places self.now }
+    {
+        match self {
+            Body::Query { key, .. } => Lines::only(key_line(*key)),
+            Body::Answer { key, shown } => Lines::only(shown_line(*key, shown)),
+            Body::Prepare(drafts) => Lines::of(drafts),
+            Body::Vote {
+                against: Some(objection),
+            } => Lines::only(objection_line(objection)),
+            Body::Outcome {
+                granted: Some(grant),
+            } => Lines::of(&grant.drafts),
+            Body::Vote { against: None } | Body::Outcome { granted: None } => Lines::none(),
         }
     }
 
@@ -187,38 +223,64 @@ impl Body {
         ensures few { result ≤ line_limit }
         ensures places { Places self.now }
     {
-        match self {
-            Body::Query { .. } | Body::Answer { .. } | Body::Vote(Vote::No(_)) => 1,
-            Body::Prepare(drafts) => drafts.len(),
-            Body::Outcome(Outcome::Granted { drafts, .. }) => drafts.len(),
-            Body::Vote(Vote::Yes) | Body::Outcome(Outcome::Refused) => 0,
-        }
+        self.iter().count()
     }
 
     // The line at an index from 0.
     pub fn line(&self, index: usize) -> Option<Line>
         ensures { result ≡ slice_get (lines_of self.now) index }
     {
-        match self {
-            Body::Query { key, .. } => only_line(key_line(*key), index),
-            Body::Answer { key, shown } => only_line(shown_line(*key, shown), index),
-            Body::Prepare(drafts) | Body::Outcome(Outcome::Granted { drafts, .. }) => {
-                drafts.line(index)
-            }
-            Body::Vote(Vote::No(objection)) => only_line(objection_line(objection), index),
-            Body::Vote(Vote::Yes) | Body::Outcome(Outcome::Refused) => None,
+        self.iter().nth(index)
+    }
+}
+
+impl Lines<'_> {
+    fn none() -> Lines<'static>
+        ensures { lines_left result ≡ [] }
+    {
+        Lines {
+            only: None,
+            drafts: &[],
+        }
+    }
+
+    fn only(line: Line) -> Lines<'static>
+        ensures { lines_left result ≡ line ∷ [] }
+    {
+        Lines {
+            only: Some(line),
+            drafts: &[],
         }
     }
 }
 
-impl Drafts {
-    // The line of the draft at an index.
-    fn line(&self, index: usize) -> Option<Line>
-        ensures { result ≡ slice_get (lines_of (Body.Prepare self.now)) index }
+impl<'a> Lines<'a> {
+    // A line for each draft.
+    fn of(drafts: &'a Drafts) -> Lines<'a>
+        ensures all { lines_left result ≡ map draft_line (counted drafts.now) }
+        ensures few { length (lines_left result) ≤ line_limit }
+        ensures places { length drafts.now.items ≡ line_limit }
     {
-        match self.as_slice().get(index) {
-            Some(draft) => Some(draft_line(draft)),
-            None => None,
+        Lines {
+            only: None,
+            drafts: drafts.as_slice(),
         }
+    }
+}
+
+impl Iterator for Lines<'_> {
+    type Item = Line;
+
+    ghost next_gives = { YieldsFirst lines_left };
+
+    ghost remaining = { item_count lines_left };
+
+    fn next(&mut self) -> Option<Line> {
+        if let Some(line) = self.only.take() {
+            return Some(line);
+        }
+        let (first, others) = self.drafts.split_first()?;
+        self.drafts = others;
+        Some(first.into())
     }
 }

@@ -6,10 +6,8 @@ use Rattle.clocks.specs.declared.Content.{Content}
 use Rattle.messages.specs.Limits.{line_limit, transaction_limit}
 use Rattle.messages.specs.Drafting.{drafts_of}
 use Rattle.messages.specs.declared.Message.{Message as Sent}
-use Rattle.messages.specs.declared.Vote.TheVariants.{Yes, No}
-use Rattle.messages.specs.declared.Outcome.TheVariants.{Granted, Refused}
 use Rattle.messages.specs.declared.Body.{Body as SentBody}
-use Rattle.messages.specs.declared.Body.TheVariants.{Query, Answer, Prepare, Vote as Voted, Outcome as Decided}
+use Rattle.messages.specs.declared.Body.TheVariants.{Query, Answer, Prepare, Vote, Outcome}
 use Rattle.frames.specs.Layout.{frame_of}
 use Rattle.frames.specs.Answers.{read_of}
 use Rattle.laws.specs.Net.{Clock, Body, query, answer, prepare, vote, granted, refused, Message, Net}
@@ -27,10 +25,9 @@ abbrev pub sent_body : Body → SentBody
 sent_body (query key first) = Query key first
 sent_body (answer key shown) = Answer key shown
 sent_body (prepare lines) = Prepare (drafts_of lines)
-sent_body (vote None) = Voted Yes
-sent_body (vote (Some against)) = Voted (No against)
-sent_body (granted number lines) = Decided (Granted number (drafts_of lines))
-sent_body refused = Decided Refused
+sent_body (vote against) = Vote against
+sent_body (granted number lines) = Outcome (Some (record { number = number; drafts = drafts_of lines }))
+sent_body refused = Outcome None
 
 abbrev pub sent_as : Message → Sent
 sent_as m = record { sender = m.from; receiver = m.to; tx = m.tx; clock = record { entries = entries_of tower_limit m.bound }; body = sent_body m.body }

@@ -12,9 +12,6 @@ use Rattle.messages.specs.Table.{conflict_mark}
 use Rattle.messages.specs.Drafting.{counted}
 use Rattle.messages.specs.declared.Draft.{Draft}
 use Rattle.messages.specs.declared.Objection.{Objection}
-use Rattle.messages.specs.declared.Vote.{Vote}
-use Rattle.messages.specs.declared.Vote.TheVariants.{Yes, No}
-use Rattle.messages.specs.declared.Outcome.TheVariants.{Granted as GrantedOutcome, Refused as RefusedOutcome}
 use Rattle.messages.specs.declared.Message.{Message}
 use Rattle.messages.specs.declared.Body.{Body}
 use Rattle.messages.specs.declared.Body.TheVariants.{Query, Answer as AnswerBody, Prepare as PrepareBody, Vote as VoteBody, Outcome as OutcomeBody}
@@ -41,9 +38,9 @@ abbrev pub ripe_by : Clock → Message → Body → Bool
 ripe_by c m (Query key first) = covers c.entries m.clock.entries
 ripe_by c m (AnswerBody key shown) = true
 ripe_by c m (PrepareBody drafts) = covers c.entries m.clock.entries
-ripe_by c m (VoteBody vote) = covers c.entries m.clock.entries
-ripe_by c m (OutcomeBody (GrantedOutcome number drafts)) = covers c.entries m.clock.entries && slice_index c.entries m.sender + 1 == number
-ripe_by c m (OutcomeBody RefusedOutcome) = true
+ripe_by c m (VoteBody against) = covers c.entries m.clock.entries
+ripe_by c m (OutcomeBody (Some grant)) = covers c.entries m.clock.entries && slice_index c.entries m.sender + 1 == grant.number
+ripe_by c m (OutcomeBody None) = true
 
 -- the message can be delivered at a tower with this clock
 abbrev pub ripe_at : Clock → Message → Bool
@@ -54,9 +51,9 @@ abbrev pub phase_for : Body → Phase
 phase_for (Query key first) = Waiting
 phase_for (AnswerBody key shown) = Waiting
 phase_for (PrepareBody drafts) = Closing
-phase_for (VoteBody vote) = Closing
-phase_for (OutcomeBody (GrantedOutcome number drafts)) = Granted
-phase_for (OutcomeBody RefusedOutcome) = Refused
+phase_for (VoteBody against) = Closing
+phase_for (OutcomeBody (Some grant)) = Granted
+phase_for (OutcomeBody None) = Refused
 
 abbrev pub phase_number : Phase → ℕ
 phase_number Open = 0
@@ -117,12 +114,12 @@ shown_to s at m r key shown =
 
 abbrev pub voted_as : State → ℕ → Message → List Draft → Option Objection → Answer
 voted_as s at m lines (Some against) =
-    one_sent s at (Prepared m.tx (conflict_mark against.conflict)) (with_air s) (written (reply m m.clock (VoteBody (No against))))
+    one_sent s at (Prepared m.tx (conflict_mark against.conflict)) (with_air s) (written (reply m m.clock (VoteBody (Some against))))
 voted_as s at m lines None =
     cond (places_for s.held (length lines))
     (one_sent s at (Prepared m.tx 0)
     (λ air. with_held (with_air s air) (holding s.held (s.held.items ++ holds_of m.tx m.sender lines)))
-    (written (reply m m.clock (VoteBody Yes))))
+    (written (reply m m.clock (VoteBody None))))
     (refuse s NoMessage)
 
 abbrev pub voted : State → ℕ → Message → List Draft → Answer
@@ -184,10 +181,6 @@ abbrev pub decided : State → ℕ → ℕ → Record → Option Objection → A
 decided s at tx r None = granted s at tx r
 decided s at tx r (Some against) = refused s at tx r against
 
-abbrev pub objection_of : Vote → Option Objection
-objection_of Yes = None
-objection_of (No against) = Some against
-
 -- the vote is the last, or others are awaited; the first vote against is kept
 abbrev pub counting : State → ℕ → ℕ → Record → Option Objection → Answer
 counting s at tx r named =
@@ -219,9 +212,9 @@ abbrev pub on_body : State → ℕ → Message → Record → Body → Answer
 on_body s at m r (Query key first) = queried s at m key first
 on_body s at m r (AnswerBody key shown) = shown_to s at m r key shown
 on_body s at m r (PrepareBody drafts) = voted s at m (counted drafts)
-on_body s at m r (VoteBody vote) = counting s at m.tx r (option_or r.named (objection_of vote))
-on_body s at m r (OutcomeBody (GrantedOutcome number drafts)) = taken_in s at m number (counted drafts)
-on_body s at m r (OutcomeBody RefusedOutcome) = released s at m
+on_body s at m r (VoteBody against) = counting s at m.tx r (option_or r.named against)
+on_body s at m r (OutcomeBody (Some grant)) = taken_in s at m grant.number (counted grant.drafts)
+on_body s at m r (OutcomeBody None) = released s at m
 
 -- the transaction awaits the message
 abbrev pub on_phase : State → ℕ → Message → Record → Answer

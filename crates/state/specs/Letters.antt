@@ -7,7 +7,6 @@ use Rattle.messages.specs.declared.Draft.{Draft}
 use Rattle.messages.specs.declared.Message.{Message}
 use Rattle.messages.specs.declared.Body.{Body}
 use Rattle.messages.specs.declared.Body.TheVariants.{Prepare as PrepareBody, Outcome as OutcomeBody}
-use Rattle.messages.specs.declared.Outcome.TheVariants.{Granted, Refused}
 use Rattle.frames.specs.Answers.{written}
 use Rattle.frames.specs.declared.hold.Frame.{Frame}
 use Rattle.state.specs.State.{home_of}
@@ -32,9 +31,9 @@ letter_to homes tx r Prepare tower =
     let own = homed homes tower (counted r.drafts) in
     unless_none own (letter tx r tower (PrepareBody (drafts_of own)))
 letter_to homes tx r (Grant number) tower =
-    cond (tower == r.origin) None (Some (letter tx r tower (OutcomeBody (Granted number (drafts_of (homed homes tower (counted r.drafts)))))))
+    cond (tower == r.origin) None (Some (letter tx r tower (OutcomeBody (Some (record { number = number; drafts = drafts_of (homed homes tower (counted r.drafts)) })))))
 letter_to homes tx r Refuse tower =
-    cond (tower == r.origin) None (unless_none (homed homes tower (counted r.drafts)) (letter tx r tower (OutcomeBody Refused)))
+    cond (tower == r.origin) None (unless_none (homed homes tower (counted r.drafts)) (letter tx r tower (OutcomeBody None)))
 
 abbrev pub push_to : List Frame → Result Frame Fault → Result (List Frame) Fault
 push_to fs (Ok f) = Ok (pushed fs f)

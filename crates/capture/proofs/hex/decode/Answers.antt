@@ -1,19 +1,23 @@
-use Rattle.std.proofs.Common.{◌+◌, ◌*◌, drop, vec_items, sym, ap, ◌∙◌, arith}
-use Rattle.capture.specs.Hex.{spelled}
-use Rattle.capture.proofs.Spelling.{after, odd, one_more, no_more, all_read}
+use Rattle.std.proofs.Common.{◌/◌, ◌+◌, length, drop, vec_items, sym, ap, ◌∙◌, arith}
+use Rattle.capture.proofs.Spelling.{paired, after, odd, by_pairs, one_more, no_more, all_read}
 use Rattle.capture.proofs.hex.decode.Goals as goal
 
-pub returns-then-text-ne0 : goal.returns-then-text-ne0
-returns-then-text-ne0 c = sym (odd c.args.text.now c.if-text-ne0.true)
-
 pub returns-in_default : goal.returns-in_default
-returns-in_default c = no_more c.args.text.now c.loop-i.i (omega arith) (vec_items c.loop-i.bytes) c.in_default.ensures c.loop-i.invariant
+returns-in_default c = sym (odd c.args.text.now (λ e. omega arith))
 
-pub loop-i-preserved : goal.loop-i-preserved
-loop-i-preserved c =
-    let text = c.args.text.now in
-    ap (λ xs. after xs (spelled (drop (2 * (c.loop-i.i + 1)) text))) c.in_ok-push.ensures.items
-    ∙ one_more text c.loop-i.i (omega arith) (vec_items c.loop-i.bytes) c.in-Some.byte c.in-Some.ensures c.loop-i.invariant
+pub returns-in_default-pair : goal.returns-in_default-pair
+returns-in_default-pair c =
+    no_more c.as_chunks.result.0.now c.loop-high.high-index c.loop-high-test.true (vec_items c.loop-high.bytes) c.in_default-pair.ensures c.loop-high.invariant
+    ∙ ap paired c.as_chunks.ensures.front
+    ∙ by_pairs c.args.text.now (length c.args.text.now / 2) (omega arith)
+
+pub loop-high-preserved : goal.loop-high-preserved
+loop-high-preserved c =
+    ap (λ xs. after xs (paired (drop (c.loop-high.high-index + 1) c.as_chunks.result.0.now))) c.in_ok-push.ensures.items
+    ∙ one_more c.as_chunks.result.0.now c.loop-high.high-index c.loop-high-test.true (vec_items c.loop-high.bytes) c.in-Some.byte c.in-Some.ensures c.loop-high.invariant
 
 pub returns : goal.returns
-returns c = all_read c.args.text.now c.loop-i.i (vec_items c.loop-i.bytes) (omega arith) c.loop-i.invariant
+returns c =
+    all_read c.as_chunks.result.0.now c.loop-high.high-index (vec_items c.loop-high.bytes) c.loop-high-test.false c.loop-high.invariant
+    ∙ ap paired c.as_chunks.ensures.front
+    ∙ by_pairs c.args.text.now (length c.args.text.now / 2) (omega arith)

@@ -1,8 +1,11 @@
-use Rattle.std.proofs.Common.{◌≡◌, ◌++◌, take, string_bytes}
+use Rattle.std.proofs.Common.{◌≡◌, ◌++◌, string_bytes}
 use Rattle.std.specs.List.{flat_map}
-use Rattle.messages.specs.Table.{lines_of}
+use Rattle.messages.specs.Table.{lines_of, lines_left}
 use Rattle.capture.specs.Text.{line_text}
 use Rattle.capture.proofs.text.add_lines.Given as goal
 
-abbrev pub invariant-loop-i : goal.invariant-loop-i
-invariant-loop-i l = string_bytes l.out ≡ string_bytes l.initial.out ++ flat_map line_text (take l.i (lines_of l.body))
+abbrev pub invariant-loop-line : goal.invariant-loop-line
+invariant-loop-line l = record {
+  left : l.yielded ++ lines_left l.line-iterator ≡ lines_of l.body;
+  text : string_bytes l.out ≡ string_bytes l.initial.out ++ flat_map line_text l.yielded;
+}

@@ -14,11 +14,11 @@ returns c =
     let kind = c.args.kind in
     let clock : c.clock_at.result.entries ≡ clock_at tower_limit (drop head_size b) = c.clock_at.ensures ∙ ap (clock_at tower_limit) (take_rest b head_size) in
     let number : c.word_at.result ≡ word_at b 8 = c.word_at.ensures ∙ ap (λ r. word_at r 0) (take_rest b 8) ∙ simp get_or-drop in
-    let body : c.body_at.result ≡ body_at kind (get_or b 6 0) (word_at b 8) (count_byte b) (drop (fixed_size tower_limit) b) =
-    c.body_at.ensures
+    let body : c.body.result ≡ body_at kind (get_or b 6 0) (word_at b 8) (count_byte b) (drop (fixed_size tower_limit) b) =
+    c.body.ensures
     ∙ ap (λ r. body_at kind (get_or b 6 0) c.word_at.result (count_byte b) r) (take_rest b (fixed_size tower_limit))
     ∙ ap (λ v. body_at kind (get_or b 6 0) v (count_byte b) (drop (fixed_size tower_limit) b)) number in
     let made : ℕ → List ℕ → Body → Message = λ t k y. record { sender = get_or b 1 0; receiver = get_or b 2 0; tx = t; clock = record { entries = k }; body = y } in
-    ap (λ t. made t c.clock_at.result.entries c.body_at.result) c.from_le_bytes.ensures
-    ∙ ap (λ k. made (half_at b 4) k c.body_at.result) clock
+    ap (λ t. made t c.clock_at.result.entries c.body.result) c.from_le_bytes.ensures
+    ∙ ap (λ k. made (half_at b 4) k c.body.result) clock
     ∙ ap (λ y. made (half_at b 4) (clock_at tower_limit (drop head_size b)) y) body

@@ -26,6 +26,6 @@ returns-then-is_frame c =
 pub returns-else-is_frame : goal.returns-else-is_frame
 returns-else-is_frame c =
     let bs = c.args.bytes.now in
-    let refused : ◌≡◌ {A = Result Message Fault} (Err c.plain.result) (Err (plain WrongField)) = ap (λ f. Err f) c.plain.ensures in
+    let refused : ◌≡◌ {A = Result Message Fault} (Err c.into.result) (Err (plain WrongField)) = ap (λ f. Err f) c.into.ensures in
     let v = refused ∙ read-candidate bs _ _ false c.in_ok-kind.ensures c.message_at-message.ensures c.if-is_frame.ensures.value in
     record { reads = read_answers bs _ v tt; value = v }

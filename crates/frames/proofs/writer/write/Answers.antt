@@ -1,6 +1,6 @@
 use Rattle.std.proofs.Common.{◌≡◌, ℕ, true, List, [], ◌++◌, Ok, Err, Result, sym, ap, ◌∙◌, append_assoc, arith}
 use Rattle.std.specs.List.{flat_map}
-use Rattle.std.proofs.lemmas.Bool.{cond-true, cond-false}
+use Rattle.std.proofs.lemmas.Bool.{cond-true}
 use Rattle.faults.specs.Table.{plain}
 use Rattle.faults.specs.declared.Fault.{Fault}
 use Rattle.faults.specs.declared.Cause.TheVariants.{FrameField as WrongField}
@@ -13,16 +13,8 @@ use Rattle.frames.specs.declared.hold.Frame.{Frame}
 use Rattle.frames.proofs.Back.{one-message, written_back}
 use Rattle.frames.proofs.writer.write.Goals as goal
 
-pub returns-then-not-is_valid : goal.returns-then-not-is_valid
-returns-then-not-is_valid c =
-    let m = c.args.message.now in
-    let refused : ◌≡◌ {A = Result Frame Fault} (Err c.plain.result) (Err (plain WrongField)) = ap (λ f. Err f) c.plain.ensures in
-    record {
-      value = refused ∙ sym (cond-false (valid m) (Ok (framed (frame_of m))) (Err (plain WrongField)) (sym c.if-not-is_valid.ensures));
-      typed = tt;
-      back = tt;
-      one = one-message;
-    }
+pub returns-then-not-is_valid-clause-one : goal.returns-then-not-is_valid-clause-one
+returns-then-not-is_valid-clause-one c = one-message
 
 pub returns : goal.returns
 unfolding frame_of
