@@ -1,8 +1,8 @@
 use Rattle.std.proofs.Common.{◌<◌, true, false, length, refl, sym, arith}
 use Rattle.std.proofs.lemmas.Fn.{says_at}
 use Rattle.std.proofs.lemmas.List.Filters.{FiltersInPlace-more_set, FiltersInPlace-more_no}
-use Rattle.tray.proofs.tray.sift.Goals as goal
-use Rattle.tray.proofs.tray.sift.Goals.{then-rule, else-rule}
+use Rattle.tray.proofs.tray.impls.sift.Goals as goal
+use Rattle.tray.proofs.tray.impls.sift.Goals.{then-rule, else-rule}
 
 pub loop-i-preserved : goal.loop-i-preserved
 loop-i-preserved g c =

@@ -1,7 +1,7 @@
 use Rattle.std.proofs.Common.{◌≤◌, Bool}
 use Rattle.std.proofs.lemmas.List.Filters.{FiltersInPlace}
 use Rattle.tray.specs.Contents.{Computes}
-use Rattle.tray.proofs.tray.sift.Given as goal
+use Rattle.tray.proofs.tray.impls.sift.Given as goal
 
 abbrev pub invariant-loop-i : goal.invariant-loop-i
 invariant-loop-i g l =
