@@ -40,14 +40,6 @@ is_read (vote n) = false
 is_read (granted n ls) = false
 is_read refused = false
 
-abbrev pub is_refused : Body → Bool
-is_refused (query k f) = false
-is_refused (answer k v) = false
-is_refused (prepare ls) = false
-is_refused (vote n) = false
-is_refused (granted n ls) = false
-is_refused refused = true
-
 -- the home that a prepare goes to, or a vote comes from
 abbrev pub polled : Message → ℕ
 polled m = elim m.body [ query k f ↦ m.to | answer k v ↦ m.to | prepare ls ↦ m.to | vote n ↦ m.from | granted n ls ↦ m.to | refused ↦ m.to ]
