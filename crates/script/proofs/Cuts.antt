@@ -7,12 +7,13 @@ use Rattle.std.specs.Bool.{MatchBool}
 use Rattle.std.specs.Fn.{Called}
 use Rattle.std.specs.List.{All, IsFirstMatchOrLen, onto_first, slice_split}
 use Rattle.std.specs.declared.slice.Split.{Split}
+use Rattle.std.specs.Slice.{IsGetRangeResult}
 use Rattle.std.specs.Slice.Iter.{split_callee, split_rest, split_steps}
 use Rattle.std.proofs.Math.Seq.{get_or-append_seam}
 use Rattle.std.proofs.Math.ListN.{get_or-append}
 use Rattle.std.proofs.lemmas.Bool.{eqb-true}
 use Rattle.std.proofs.lemmas.Fn.{always_returns_same}
-use Rattle.std.proofs.lemmas.List.{drop-drop, drop_all, length-append, length-drop}
+use Rattle.std.proofs.lemmas.List.{drop-drop, drop_all, length-append, length-drop, take_rest}
 use Rattle.std.proofs.lemmas.List.Prefix.{front_rest}
 use Rattle.std.proofs.lemmas.List.Splits.{slice_split_at, slice_split_none}
 use Rattle.script.specs.Grammar.{fields_of, lines_of, onto, placed, words_of}
@@ -40,11 +41,12 @@ first_in sep x bs more false (y, e) p =
     (λ k d h. ap (λ b. eqb b sep) (sym (ap (λ l. get_or l k d) e ∙ get_or-append x (y ∷ more) d k h)) ∙ p.0 k d (omega arith) h)
     (rw here at e)
 
--- what `split` gives first, where its closure tells `sep`
-pub first_of_split : {F : Type 0} (g : Mut F (Bor ℕ × Unit {0}) Bool) (sep : ℕ) (bs : List ℕ) (s t : Split ℕ F) (x : Bor (List ℕ)) → split_steps g s (Some x) t → split_rest s ≡ bs → ((a : Bor ℕ × Unit {0}) (r : Bool) (q : F) → Called g (split_callee s) a r q → (r ≡ eqb a.0.now sep) × (q ≡ split_callee s)) → First sep x.now bs
-first_of_split g sep bs s t x h e calls =
+-- what `split` gives first of the text from the place `at` on, where its closure tells `sep`
+pub first_of_split : {F : Type 0} (g : Mut F (Bor ℕ × Unit {0}) Bool) (sep : ℕ) (text : List ℕ) (at : ℕ) (from : Bor (List ℕ)) (s t : Split ℕ F) (x : Bor (List ℕ)) → IsGetRangeResult text at (length text) (Some from) → split_rest s ≡ from.now → split_steps g s (Some x) t → ((a : Bor ℕ × Unit {0}) (r : Bool) (q : F) → Called g (split_callee s) a r q → (r ≡ eqb a.0.now sep) × (q ≡ split_callee s)) → First sep x.now (drop at text)
+first_of_split g sep text at from s t x part here h calls =
     let key = always_returns_same g (λ a r. r ≡ eqb a.0.now sep) (split_callee s) calls in
-    subst (λ l. First sep x.now l) e (first_in sep x.now (split_rest s) (split_rest t) _ h.1 (h.2 (λ b. eqb b sep) key).1)
+    let bs : split_rest s ≡ drop at text = here ∙ part.0.2 ∙ take_rest text at in
+    subst (λ l. First sep x.now l) bs (first_in sep x.now (split_rest s) (split_rest t) _ h.1 (h.2 (λ b. eqb b sep) key).1)
 
 onto_is : (b : ℕ) (ws : List (List ℕ)) → onto b ws ≡ onto_first b ws
 onto_is b [] = refl

@@ -83,13 +83,10 @@ fit (closes t) s = ((t, s, refl), tt)
 fit (drops t) s = ((t, s, refl), tt)
 fit (delivers m) s = ((m, s, refl), tt)
 
-cons_apart : {X : Type 0} (x : X) (xs : List X) → [] ≡ x ∷ xs → ⊥
-cons_apart x xs e = let z : ◌≡◌ {A = ℕ} 0 1 = cc in omega arith
-
 no_fault_after : {end : ℕ} {ss : List Slot} {fs : List Field} {f : Fault} (vs : List (List ℕ)) → Fit ss vs → texts fs ≡ filled ss vs → Fails end ss fs f → ⊥
 no_fault_after [] h e missing = absurd h
-no_fault_after (v ∷ vs) h e missing = cons_apart _ _ e
-no_fault_after [] h e extra = cons_apart _ _ (sym e)
+no_fault_after (v ∷ vs) h e missing = cc
+no_fault_after [] h e extra = cc
 no_fault_after (v ∷ vs) h e extra = absurd h
 no_fault_after [] h e (misnamed a) = absurd h
 no_fault_after (v ∷ vs) h e (misnamed a) = a v (cc)

@@ -1,7 +1,7 @@
 // The words of a script: numbers, names of fields, calls and books.
 #![tactic(auto)]
 
-ghost use Rattle.std.specs.Prelude.{◌≡◌, ℕ, ◌^◌, ◌<◌, ◌≤◌, List, ◌++◌, codes, decimal, Decides, MatchOption, Some, ◌≢◌};
+ghost use Rattle.std.specs.Prelude.{◌≡◌, ℕ, ◌^◌, ◌<◌, ◌≤◌, List, ◌++◌, decimal, Decides, MatchOption, Some, ◌≢◌};
 ghost use Rattle.std.specs.Str.Parse.{AllDigits, digits_value};
 ghost use Rattle.std.specs.Char.{digit_value};
 ghost use Rattle.words.specs.Words.{NamesBook, NamesVerb, NoNumber, book_word, named};

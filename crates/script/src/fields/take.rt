@@ -1,10 +1,10 @@
 // Taking fields: each has to have its name, and what is wrong with it is a fault at its start.
-ghost use Rattle.std.specs.Prelude.{◌≡◌, ◌+◌, ◌-◌, ◌≤◌, [], ◌∷◌, ◌++◌, length, take, drop, decimal, MatchOption, MatchResult};
+ghost use Rattle.std.specs.Prelude.{◌≡◌, ◌+◌, ◌≤◌, [], ◌∷◌, ◌++◌, length, decimal, MatchOption, MatchResult};
 ghost use Rattle.std.specs.Str.Parse.{AllDigits};
 ghost use Rattle.words.specs.Words.{book_word, named};
 ghost use Rattle.script.specs.Grammar.{fault};
 ghost use Rattle.script.specs.Grammar.Slot.{a_number, some_homes, a_book};
-ghost use Rattle.script.specs.Readers.{Bad, BadAt, BadName, Ended, Filled, Starts, Took, left, rest};
+ghost use Rattle.script.specs.Readers.{Bad, BadAt, BadName, Ended, Filled, Starts, Took, rest};
 ghost use Rattle.script.specs.Limits.{text_limit};
 
 use super::Fields;
