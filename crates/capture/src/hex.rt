@@ -8,6 +8,7 @@ use frames::read;
 use messages::Message;
 use std::alloc::{AllocError, Global};
 
+// The value of a digit. The cases are the characters that count as digits.
 fn digit(c: u8) -> Option<u8>
     ensures { result ≡ digit_of c }
 {

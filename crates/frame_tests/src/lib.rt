@@ -33,17 +33,12 @@ mod tests {
 
     // The number of the fault that the bytes have, 0 for a frame.
     fn fault_of(bytes: &[u8]) -> u8 {
-        match read(bytes) {
-            Ok(_) => 0,
-            Err(fault) => fault.cause.number(),
-        }
+        read(bytes).err().map_or(0, |fault| fault.cause.number())
     }
 
     #[test]
     fn outcome_as_documented(rt: HostRuntime) -> Result<(), Fail> {
-        let Ok(frame) = write(&outcome(5)) else {
-            return Err(Fail::new("no frame"));
-        };
+        let frame = write(&outcome(5))?;
         let head = [5, 1, 0, 1, 5, 0, 1, 0, 2, 0, 0, 0, 1, 0, 0, 0, 2, 0, 0, 0];
         let line = [3, 0, 0, 0, 0, 0, 0, 0, 9, 0, 0, 0];
         let bytes = frame.as_slice();
@@ -58,13 +53,9 @@ mod tests {
 
     #[test]
     fn transaction_past_the_limit_has_no_frame(rt: HostRuntime) -> Result<(), Fail> {
-        match write(&outcome(1024)) {
-            Ok(_) => Err(Fail::new("a frame")),
-            Err(fault) => {
-                assert_eq!(rt; fault.cause.number(), 22);
-                Ok(())
-            },
-        }
+        let fault = write(&outcome(1024)).err().ok_or("a frame")?;
+        assert_eq!(rt; fault.cause.number(), 22);
+        Ok(())
     }
 
     #[test]
@@ -89,12 +80,8 @@ mod tests {
         for i in 0..LINES {
             assert!(rt; drafts.push(draft(i as u8, 7)).is_ok());
         }
-        match drafts.push(draft(9, 7)) {
-            Ok(_) => Err(Fail::new("a ninth draft")),
-            Err(fault) => {
-                assert_eq!(rt; fault.cause.number(), 6);
-                Ok(())
-            },
-        }
+        let fault = drafts.push(draft(9, 7)).err().ok_or("a ninth draft")?;
+        assert_eq!(rt; fault.cause.number(), 6);
+        Ok(())
     }
 }

@@ -138,6 +138,7 @@ fn message_at(kind: Kind, bytes: &[u8]) -> Message
     requires { SizedAs kind bytes.now }
     ensures { result ≡ message_at tower_limit kind bytes.now }
 {
+    // The first fields are named in the order of the layout.
     let [_, sender, receiver, count, t0, t1, mark, _, rest @ ..] = bytes else {
         return unreachable();
     };

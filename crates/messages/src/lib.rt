@@ -23,6 +23,7 @@ pub struct Draft {
 }
 
 // Up to eight drafts, in their order. The first `len` places hold them, and the others are blank.
+// A type for this and a frame's bytes is no plainer: each would wrap it, for a ninth draft has a fault and a frame's part always fits.
 #[derive(Clone, Copy)]
 pub struct Drafts {
     items: [Draft; LINES],

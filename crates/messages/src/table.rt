@@ -234,8 +234,8 @@ impl Body {
     }
 }
 
-impl Lines<'_> {
-    fn none() -> Lines<'static>
+impl<'a> Lines<'a> {
+    fn none() -> Lines<'a>
         ensures { lines_left result ≡ [] }
     {
         Lines {
@@ -244,7 +244,7 @@ impl Lines<'_> {
         }
     }
 
-    fn only(line: Line) -> Lines<'static>
+    fn only(line: Line) -> Lines<'a>
         ensures { lines_left result ≡ line ∷ [] }
     {
         Lines {
@@ -252,9 +252,7 @@ impl Lines<'_> {
             drafts: &[],
         }
     }
-}
 
-impl<'a> Lines<'a> {
     // A line for each draft.
     fn of(drafts: &'a Drafts) -> Lines<'a>
         ensures all { lines_left result ≡ map draft_line (counted drafts.now) }
