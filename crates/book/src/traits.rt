@@ -13,15 +13,13 @@ pub trait BookView {
     // What the book holds: its two numbers, and the list of each key.
     ghost kept: { Self → Kept };
 
-    // How many keys the book has. They are numbered from 0, and a number past them has no versions.
+    // How many keys the book has. They are numbered from 0.
     fn keys(&self) -> usize
-        ensures value { result ≡ (kept self.now).keys }
-        ensures outside { Outside (kept self.now) };
+        ensures { result ≡ (kept self.now).keys };
 
-    // How many versions a key can have. None has more.
+    // How many versions a key can have.
     fn depth(&self) -> usize
-        ensures value { result ≡ (kept self.now).depth }
-        ensures short { Short (kept self.now) };
+        ensures { result ≡ (kept self.now).depth };
 
     // How many versions the list of the key has. The list of a key that is not there is empty.
     fn list_len(&self, key: usize) -> usize
@@ -59,6 +57,12 @@ pub trait BookView {
         known(key, self.keys())?;
         Ok(self.list_newest(key, bound))
     }
+
+    // A number past the keys has no versions.
+    ghost outside: { (book : Self) → Outside (kept book) };
+
+    // No key has more versions than the depth.
+    ghost short: { (book : Self) → Short (kept book) };
 }
 
 // A book that versions can be added to.

@@ -1,6 +1,5 @@
-ghost use Rattle.std.specs.Prelude.{ℕ, ◌*◌, ◌≤◌, length};
+ghost use Rattle.std.specs.Prelude.{◌*◌, ◌≤◌, length};
 ghost use Rattle.book.specs.Limits.{key_limit, depth_limit};
-ghost use Rattle.rows.specs.Places.{row_of};
 
 use clocks::Version;
 
@@ -9,7 +8,6 @@ pub mod impls;
 // A row of `depth` places for each key, the row of a key at key × depth, and beside the rows a count for each key of how
 // many of its places are taken. A count past the depth counts as the depth, so that any memory has a meaning.
 // Two slices that are the caller's memory, and no `Vec` of rows: a rule of the project needs it, that memory is lent.
-// (`short` holds of any memory, and stands here for `depth` to promise it.)
 #[derive(Drop)]
 pub struct Rows<'a> {
     counts: &'a mut [u8],
@@ -20,5 +18,4 @@ pub struct Rows<'a> {
     ghost space: { keys * depth ≤ length versions.now },
     ghost few: { keys ≤ key_limit },
     ghost small: { depth ≤ depth_limit },
-    ghost short: { (k : ℕ) → length (row_of counts.now versions.now keys depth k) ≤ depth },
 }

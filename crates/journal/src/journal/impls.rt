@@ -42,6 +42,10 @@ impl<'a> Journal<'a> {
 impl<'a> BookView for Journal<'a> {
     ghost kept = { journal_kept };
 
+    ghost outside = { λ j. j.known };
+
+    ghost short = { λ j. j.filled };
+
     fn keys(&self) -> usize {
         self.keys
     }

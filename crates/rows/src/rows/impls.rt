@@ -2,7 +2,9 @@ ghost use Rattle.std.specs.Prelude.{◌≡◌, ◌+◌, ◌*◌, ◌<◌, ◌≤
 ghost use Rattle.book.specs.Books.{added, blank, blank_over};
 ghost use Rattle.book.specs.Limits.{key_limit, depth_limit};
 ghost use Rattle.book.specs.Shapes.{places};
+ghost use Rattle.rows.specs.Lengths.{row_short};
 ghost use Rattle.rows.specs.Rowed.{rows_kept, RowsShaped};
+ghost use Rattle.std.proofs.Common.{rules};
 
 use super::Rows;
 use book::{Book, BookView, Shape, newest_of};
@@ -96,6 +98,10 @@ impl<'a> Rows<'a> {
 
 impl<'a> BookView for Rows<'a> {
     ghost kept = { rows_kept };
+
+    ghost outside = { Prim.search rules };
+
+    ghost short = { λ r. row_short r.counts.now r.versions.now r.keys r.depth };
 
     fn keys(&self) -> usize {
         self.keys
