@@ -41,7 +41,7 @@ pub enum Verb {
     Deliver,
 }
 
-// The digit that a byte writes.
+// The digit that a byte writes. Here and below, characters are read as literals in cases: a rule of the project.
 fn digit(b: u8) -> Option<u8>
     ensures { MatchOption result (10 ≤ digit_value b) (λ d. (d < 10) × (digit_value b ≡ d)) }
 {

@@ -29,6 +29,7 @@ impl<'a> Part<'a> {
     }
 }
 
+// A rule of the project: a field is taken by `let else`, whose other branch makes the fault with its place.
 impl<'a> Fields<'a> {
     // The fields of a line that is not too long.
     pub(crate) fn new(line: &'a [u8]) -> Fields<'a>
@@ -38,7 +39,7 @@ impl<'a> Fields<'a> {
         Fields { line, at: 0 }
     }
 
-    // The next field.
+    // The next field. The blank that ends it is read as a literal in a case, as every character: a rule of the project.
     pub(crate) fn field(&mut self) -> Option<Part<'a>>
         ensures { MatchOption result (Ended self.old self.new) (λ x. (x.start ≡ self.old.at) × Took self.old self.new x.bytes.now) }
     {
