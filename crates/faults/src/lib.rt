@@ -138,15 +138,6 @@ impl fmt::Display for Cause {
     }
 }
 
-impl Fault {
-    // A fault that has no place of its own.
-    pub fn plain(cause: Cause) -> Fault
-        ensures { result ≡ plain cause }
-    {
-        cause.into()
-    }
-}
-
 // A fault that has no place of its own.
 impl From<Cause> for Fault {
     ghost from_gives = { λ c f. f ≡ plain c };

@@ -52,11 +52,11 @@ pub fn parse_line(line: &[u8]) -> Result<Command<'_>, Fault>
     ensures back { ReadBack line.now (meant result) }
 {
     if line.len() > TEXT_LIMIT {
-        return Err(Fault::plain(Cause::Size));
+        return Err(Cause::Size.into());
     }
     let mut fields = Fields::new(line);
     let Some(verb) = fields.verb() else {
-        return Err(Fault::plain(Cause::Call));
+        return Err(Cause::Call.into());
     };
     fields.command(verb)
 }

@@ -20,7 +20,7 @@ impl<'a> Reader<'a> {
         ensures { Opens text.now result }
     {
         if text.len() > TEXT_LIMIT {
-            return Err(Fault::plain(Cause::Size));
+            return Err(Cause::Size.into());
         }
         Ok(Reader { text, at: 0 })
     }
