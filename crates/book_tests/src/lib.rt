@@ -33,9 +33,9 @@ mod tests {
         }
     }
 
-    // The number of the fault, 0 where there is none.
-    fn fault<T: Drop>(answer: Result<T, Fault>) -> u8 {
-        answer.err().map_or(0, |fault| fault.cause.number())
+    // The number of the fault, if there is one.
+    fn fault<T: Drop>(answer: Result<T, Fault>) -> Option<u8> {
+        answer.err().map(|fault| fault.cause.number())
     }
 
     // The value that key 1 shows at the bound.
@@ -46,12 +46,12 @@ mod tests {
 
     fn rules<B: Book>(rt: &impl Abort, book: &mut B) {
         assert!(rt; is_blank(book));
-        assert!(rt; fault(book.look(1, 0)) == 42);
-        assert!(rt; fault(book.look(KEYS, 0)) == 41);
-        assert!(rt; fault(book.add(KEYS, version(0, 5))) == 41);
-        assert!(rt; fault(book.add(1, version(0, 5))) == 0);
-        assert!(rt; fault(book.add(1, version(1, 6))) == 0);
-        assert!(rt; fault(book.add(1, version(2, 7))) == 43);
+        assert_eq!(rt; fault(book.look(1, 0)), Some(42));
+        assert_eq!(rt; fault(book.look(KEYS, 0)), Some(41));
+        assert_eq!(rt; fault(book.add(KEYS, version(0, 5))), Some(41));
+        assert_eq!(rt; fault(book.add(1, version(0, 5))), None);
+        assert_eq!(rt; fault(book.add(1, version(1, 6))), None);
+        assert_eq!(rt; fault(book.add(1, version(2, 7))), Some(43));
         assert!(rt; book.count(1).unwrap_or(0) == DEPTH);
         assert!(rt; book.count(0).unwrap_or(1) == 0);
         assert!(rt; !is_blank(book));
@@ -66,7 +66,7 @@ mod tests {
             key: 0,
             version: version(0, 0),
         }; PLACES];
-        let shape = Shape::new(KEYS, DEPTH, PLACES).map_err(|_| Fail::new("shape"))?;
+        let shape = Shape::new(KEYS, DEPTH, PLACES)?;
         let mut book = Journal::blank(shape, &mut memory);
         rules(&rt, &mut book);
         Ok(())
@@ -76,7 +76,7 @@ mod tests {
     fn rows_keep_the_rules(rt: HostRuntime) -> Result<(), Fail> {
         let mut counts = [1u8; KEYS];
         let mut versions = [version(0, 0); PLACES];
-        let shape = Rows::shape(KEYS, DEPTH, &counts, &versions).map_err(|_| Fail::new("shape"))?;
+        let shape = Rows::shape(KEYS, DEPTH, &counts, &versions)?;
         let mut book = Rows::blank(shape, &mut counts, &mut versions);
         rules(&rt, &mut book);
         Ok(())
@@ -84,9 +84,12 @@ mod tests {
 
     #[test]
     fn shapes_are_refused(rt: HostRuntime) {
-        assert!(rt; fault(Shape::new(1, 65, 65)) == 40);
-        assert!(rt; fault(Shape::new(257, 1, 257)) == 40);
-        assert!(rt; fault(Shape::new(KEYS, DEPTH, PLACES + 1)) == 40);
-        assert!(rt; fault(Rows::shape(KEYS, DEPTH, &[0; 3], &[version(0, 0); PLACES])) == 40);
+        assert_eq!(rt; fault(Shape::new(1, 65, 65)), Some(40));
+        assert_eq!(rt; fault(Shape::new(257, 1, 257)), Some(40));
+        assert_eq!(rt; fault(Shape::new(KEYS, DEPTH, PLACES + 1)), Some(40));
+        assert_eq!(rt;
+            fault(Rows::shape(KEYS, DEPTH, &[0; 3], &[version(0, 0); PLACES])),
+            Some(40)
+        );
     }
 }

@@ -3,7 +3,7 @@
 
 #[cfg(test)]
 mod tests {
-    use clocks::{Clock, Content, TOWERS};
+    use clocks::{Clock, Content};
     use frames::{read, write};
     use messages::{Body, Draft, Drafts, Grant, LINES, Message};
     use std::test::Fail;
@@ -17,9 +17,7 @@ mod tests {
     fn outcome(tx: u16) -> Message {
         let mut drafts = Drafts::new();
         let _ = drafts.push(draft(3, 9));
-        let mut entries = [0; TOWERS];
-        entries[0] = 1;
-        entries[1] = 2;
+        let entries = [1, 2, 0, 0, 0, 0, 0, 0];
         Message {
             sender: 1,
             receiver: 0,
@@ -31,9 +29,9 @@ mod tests {
         }
     }
 
-    // The number of the fault that the bytes have, 0 for a frame.
-    fn fault_of(bytes: &[u8]) -> u8 {
-        read(bytes).err().map_or(0, |fault| fault.cause.number())
+    // The number of the fault that the bytes have; a frame has none.
+    fn fault_of(bytes: &[u8]) -> Option<u8> {
+        read(bytes).err().map(|fault| fault.cause.number())
     }
 
     #[test]
@@ -47,7 +45,7 @@ mod tests {
         let zeros = [0; 24];
         assert!(rt; bytes[20..44] == zeros[0..24]);
         assert!(rt; bytes[44..56] == line[0..12]);
-        assert_eq!(rt; fault_of(bytes), 0);
+        assert_eq!(rt; fault_of(bytes), None);
         Ok(())
     }
 
@@ -62,16 +60,16 @@ mod tests {
     fn faults_of_bytes_in_order(rt: HostRuntime) {
         let mut bytes = [0; 56];
         bytes[0] = 9;
-        assert_eq!(rt; fault_of(&bytes[0..43]), 20);
-        assert_eq!(rt; fault_of(&bytes[0..44]), 21);
+        assert_eq!(rt; fault_of(&bytes[0..43]), Some(20));
+        assert_eq!(rt; fault_of(&bytes[0..44]), Some(21));
         bytes[0] = 4;
-        assert_eq!(rt; fault_of(&bytes[0..44]), 0);
+        assert_eq!(rt; fault_of(&bytes[0..44]), None);
         bytes[7] = 1;
-        assert_eq!(rt; fault_of(&bytes[0..44]), 22);
+        assert_eq!(rt; fault_of(&bytes[0..44]), Some(22));
         bytes[3] = 1;
-        assert_eq!(rt; fault_of(&bytes[0..44]), 20);
+        assert_eq!(rt; fault_of(&bytes[0..44]), Some(20));
         bytes[7] = 0;
-        assert_eq!(rt; fault_of(&bytes), 22);
+        assert_eq!(rt; fault_of(&bytes), Some(22));
     }
 
     #[test]
