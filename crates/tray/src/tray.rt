@@ -21,18 +21,12 @@ impl<'a, T: Copy> Tray<'a, T> {
     }
 
     // How many places are taken.
-    fn used(&self) -> usize
+    pub fn len(&self) -> usize
         ensures count { result ≡ length (contents self.now) }
         ensures within { result ≤ room self.now }
         ensures front { take result self.now.items.now ≡ contents self.now }
     {
         self.len.min(self.items.len())
-    }
-
-    pub fn len(&self) -> usize
-        ensures { result ≡ length (contents self.now) }
-    {
-        self.used()
     }
 
     // How many elements have a place.
@@ -45,7 +39,7 @@ impl<'a, T: Copy> Tray<'a, T> {
     pub fn as_slice(&self) -> &[T]
         ensures { result.now ≡ contents self.now }
     {
-        let n = self.used();
+        let n = self.len();
         let items = &*self.items;
         &items[..n]
     }
@@ -63,7 +57,7 @@ impl<'a, T: Copy> Tray<'a, T> {
         ensures after { contents self.new ≡ slice_set (contents self.old) i x }
         ensures space { room self.new ≡ room self.old }
     {
-        let n = self.used();
+        let n = self.len();
         // A test of i, since a slice's `get_mut` does not promise what a write through it leaves.
         if i < n {
             self.items[i] = x;
@@ -79,7 +73,7 @@ impl<'a, T: Copy> Tray<'a, T> {
         ensures after { contents self.new ≡ (if full self.old then contents self.old else pushed (contents self.old) x) }
         ensures space { room self.new ≡ room self.old }
     {
-        let n = self.used();
+        let n = self.len();
         if n < self.items.len() {
             self.items[n] = x;
             self.len = n + 1;
@@ -96,7 +90,7 @@ impl<'a, T: Copy> Tray<'a, T> {
         ensures space { room self.new ≡ room self.old }
     {
         let x = self.get(i)?;
-        let n = self.used();
+        let n = self.len();
         close_gap(self.items, n, i);
         self.len = n - 1;
         Some(x)
@@ -116,7 +110,7 @@ impl<'a, T: Copy> Tray<'a, T> {
         ensures after { (keeps : T → Bool) → Computes F.Fn rule keeps → contents self.new ≡ filter keeps (contents self.old) }
         ensures space { room self.new ≡ room self.old }
     {
-        let n = self.used();
+        let n = self.len();
         self.len = sift(self.items, n, rule);
     }
 
