@@ -20,6 +20,10 @@ framed bs = record { bytes = bs ++ replicate (most_bytes - length bs) 0; len = l
 abbrev pub bytes_of : Frame → List ℕ
 bytes_of f = take f.len f.bytes
 
+-- g has the part after whatever bytes f has
+abbrev pub Extended : Frame → List ℕ → Frame → Type 0
+Extended f part g = (bs : List ℕ) → f ≡ framed bs → g ≡ framed (bs ++ part)
+
 -- what writing answers
 abbrev pub written : Message → Result Frame Fault
 written m = cond (valid m) (Ok (framed (frame_of m))) (Err (plain WrongField))

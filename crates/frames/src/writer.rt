@@ -7,7 +7,7 @@ ghost use Rattle.frames.specs.Bytes.{le4};
 ghost use Rattle.messages.specs.Table.{lines_of};
 ghost use Rattle.frames.specs.Layout.{line_bytes};
 ghost use Rattle.messages.specs.Rules.{TypedLine, Places, Typed};
-ghost use Rattle.frames.specs.Answers.{framed, bytes_of, written, read_of, OneMessage};
+ghost use Rattle.frames.specs.Answers.{Extended, framed, bytes_of, written, read_of, OneMessage};
 
 use super::MOST;
 use super::bytes::{head_bytes, line_bytes};
@@ -38,7 +38,7 @@ impl Frame {
     fn add(&mut self, part: &[u8])
         requires { self.old.len + length part.now ≤ most_bytes }
         ensures len { self.new.len ≡ self.old.len + length part.now }
-        ensures adds { (bs : List ℕ) → self.old ≡ framed bs → self.new ≡ framed (bs ++ part.now) }
+        ensures adds { Extended self.old part.now self.new }
     {
         let end = self.len + part.len();
         self.bytes[self.len..end].copy_from_slice(part);
@@ -49,7 +49,7 @@ impl Frame {
     fn add_clock(&mut self, clock: &[u32])
         requires { self.old.len + entry_size * length clock.now ≤ most_bytes }
         ensures len { self.new.len ≡ self.old.len + entry_size * length clock.now }
-        ensures adds { (bs : List ℕ) → self.old ≡ framed bs → self.new ≡ framed (bs ++ flat_map le4 clock.now) }
+        ensures adds { Extended self.old (flat_map le4 clock.now) self.new }
         ensures typed { AllByRecursion (λ v. v < 2 ^ 32) clock.now }
     {
         for entry in clock {
@@ -60,7 +60,7 @@ impl Frame {
     // Adds the lines of a body.
     fn add_lines(&mut self, body: &Body)
         requires { self.old.len ≡ fixed_size tower_limit }
-        ensures adds { (bs : List ℕ) → self.old ≡ framed bs → self.new ≡ framed (bs ++ flat_map line_bytes (lines_of body.now)) }
+        ensures adds { Extended self.old (flat_map line_bytes (lines_of body.now)) self.new }
         ensures typed { AllByRecursion TypedLine (lines_of body.now) }
         ensures places { Places body.now }
     {
