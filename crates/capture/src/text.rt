@@ -1,4 +1,5 @@
 // The listing of a capture.
+// Functions over the text and no `Display`: messages and lines are types of another crate, and their text here is the listing's own.
 ghost use Rattle.std.specs.Prelude.{◌≡◌, ◌++◌, IfOk, string_bytes, OnOk};
 ghost use Rattle.std.specs.List.{flat_map};
 ghost use Rattle.messages.specs.Table.{lines_of};

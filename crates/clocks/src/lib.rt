@@ -30,6 +30,7 @@ pub struct Version {
 }
 
 // Whether no entry of the clock is smaller than that of the bound. The lists may be of any length: an entry that one lacks is 0.
+// A loop over the entries with their index, left at the first smaller one: a rule of the project.
 pub fn covers(clock: &[u32], bound: &[u32]) -> bool
     ensures rule { MatchBool result (Covers clock.now bound.now) (Covers clock.now bound.now → ⊥) }
     ensures value { result ≡ covers clock.now bound.now }

@@ -1,4 +1,5 @@
 // The parts of a frame as bytes: its first twelve, a line, a number.
+// Functions and no `From`: neither a line nor an array of bytes is a type of this crate, which may write none for them.
 ghost use Rattle.std.specs.Prelude.{◌≡◌, ◌^◌, ◌<◌, ◌≤◌, length};
 ghost use Rattle.frames.specs.Bytes.{word_at};
 ghost use Rattle.frames.specs.Sizes.{entry_size, line_size};

@@ -26,6 +26,7 @@ fn clock_at(bytes: &[u8]) -> Clock
 }
 
 // The parts of a frame that its body is read from: kind, mark and number, how many lines it has, and their bytes.
+// The mark is a number, as in the frame: what it means depends on the kind.
 #[derive(Drop)]
 struct Parts<'a> {
     kind: Kind,

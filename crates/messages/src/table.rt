@@ -70,6 +70,7 @@ impl Kind {
 
 impl Conflict {
     // The number of the conflict; of several that a key has, a vote tells the lowest.
+    // A number and no enum: it stands as such in frames and listings, and an enum would be turned into it at each place.
     pub fn mark(&self) -> u8
         ensures { result ≡ conflict_mark self.now }
     {
@@ -116,6 +117,7 @@ impl From<Line> for Draft {
     }
 }
 
+// The line of an answer. No `From`: a key and a version are no one value here.
 fn shown_line(key: u8, shown: &Option<Version>) -> Line
     ensures { result ≡ shown_line key shown.now }
 {
@@ -131,27 +133,30 @@ fn shown_line(key: u8, shown: &Option<Version>) -> Line
     }
 }
 
-fn objection_line(objection: &Objection) -> Line
-    ensures { result ≡ conflict_line objection.now.key objection.now.conflict }
-{
-    let line = key_line(objection.key);
-    match objection.conflict {
-        Conflict::Held { origin, writer } => Line {
-            origin,
-            writer,
-            ..line
-        },
-        Conflict::Newer {
-            origin,
-            writer,
-            number,
-        } => Line {
-            origin,
-            writer,
-            number,
-            ..line
-        },
-        Conflict::Full => line,
+// The line of what a vote has against a transaction.
+impl From<&Objection> for Line {
+    ghost from_gives = { λ objection line. line ≡ conflict_line objection.now.key objection.now.conflict };
+
+    fn from(objection: &Objection) -> Line {
+        let line = key_line(objection.key);
+        match objection.conflict {
+            Conflict::Held { origin, writer } => Line {
+                origin,
+                writer,
+                ..line
+            },
+            Conflict::Newer {
+                origin,
+                writer,
+                number,
+            } => Line {
+                origin,
+                writer,
+                number,
+                ..line
+            },
+            Conflict::Full => line,
+        }
     }
 }
 
@@ -168,6 +173,7 @@ impl Body {
         }
     }
 
+    // The mark, a number of the format as a conflict's is.
     pub fn mark(&self) -> u8
         ensures { result ≡ mark_of self.now }
     {
@@ -209,7 +215,7 @@ impl Body {
             Body::Prepare(drafts) => Lines::of(drafts),
             Body::Vote {
                 against: Some(objection),
-            } => Lines::only(objection_line(objection)),
+            } => Lines::only(objection.into()),
             Body::Outcome {
                 granted: Some(grant),
             } => Lines::of(&grant.drafts),

@@ -5,7 +5,7 @@ ghost use Rattle.script.specs.Limits.{text_limit};
 mod calls;
 mod take;
 
-// A line, and the place from which it is still to be read: past its end no field is left.
+// A line, and the place from which it is still to be read: past its end no field is left, but an empty last field counts.
 #[derive(Drop)]
 pub(crate) struct Fields<'a> {
     line: &'a [u8],

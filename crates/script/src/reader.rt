@@ -8,6 +8,7 @@ use faults::{Cause, Fault};
 pub const TEXT_LIMIT: usize = 16_384;
 
 // A text, and the place from which it is still to be read: past its end no line is left.
+// A lent text with a place, as of a line in `Fields`: a rule of the project. The two end differently: an empty last line does not count.
 #[derive(Drop)]
 pub struct Reader<'a> {
     text: &'a [u8],

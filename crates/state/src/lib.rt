@@ -62,7 +62,7 @@ pub struct Batch {
     pub len: usize,
 }
 
-// Why a transaction sends to several towers: to ask for votes, or to tell how it ended.
+// Why a transaction sends to several towers: to ask for votes, or to tell how it ended. Data of a message, which no code switches on.
 #[derive(Clone, Copy)]
 pub enum Purpose {
     Prepare,

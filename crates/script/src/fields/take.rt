@@ -29,7 +29,8 @@ impl<'a> Part<'a> {
     }
 }
 
-// A rule of the project: a field is taken by `let else`, whose other branch makes the fault with its place.
+// A rule of the project: a field is taken by `let else`, whose other branch makes the fault with its place. So there is a method
+// for each thing that a field can hold, and none that takes the reading of it as a closure.
 impl<'a> Fields<'a> {
     // The fields of a line that is not too long.
     pub(crate) fn new(line: &'a [u8]) -> Fields<'a>
