@@ -28,7 +28,7 @@ fn pair(high: u8, low: u8) -> Option<u8>
     Some(high * 16 + low)
 }
 
-// The bytes that a text spells, if it is whole pairs of digits.
+// The bytes that a text spells, if it is whole pairs of digits. (The library's `hex` takes capital letters too.)
 fn decode(heap: Global, text: &[u8]) -> Result<Option<Vec<u8>>, AllocError>
     ensures { IfOk result (λ o. option_map vec_items o ≡ spelled text.now) }
 {

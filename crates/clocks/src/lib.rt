@@ -21,7 +21,7 @@ pub struct Content {
 }
 
 // A version of a key: the transaction that wrote it, the tower where that began, its count there (from 1) and what it says.
-#[derive(Clone, Copy, Default)]
+#[derive(Clone, Copy)]
 pub struct Version {
     pub writer: u16,
     pub origin: u8,

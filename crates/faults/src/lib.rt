@@ -9,7 +9,7 @@ use std::error::Error;
 use std::fmt;
 
 // The part of the product that found the fault.
-#[derive(Clone, Copy, Debug, PartialEq, Eq)]
+#[derive(Clone, Copy)]
 pub enum Layer {
     Net,
     Frame,
@@ -18,7 +18,7 @@ pub enum Layer {
 }
 
 // What was wrong, by the number of the fault. Two causes have the word `field`: a frame's and a script's.
-#[derive(Clone, Copy, Debug, PartialEq, Eq)]
+#[derive(Clone, Copy, Debug)]
 pub enum Cause {
     Tower = 1,
     Unknown = 2,
@@ -46,7 +46,7 @@ pub enum Cause {
 }
 
 // A fault: its cause, and the place where it was found. Only faults of a script's fields have a place other than 0.
-#[derive(Clone, Copy, Debug, PartialEq, Eq)]
+#[derive(Clone, Copy, Debug)]
 pub struct Fault {
     pub cause: Cause,
     pub at: u32,

@@ -55,15 +55,7 @@ impl Parts<'_> {
     fn shown(&self, line: &Line) -> Option<Version>
         ensures { result ≡ shown_at self.now.mark line.now }
     {
-        if self.mark != 1 {
-            return None;
-        }
-        Some(Version {
-            writer: line.writer,
-            origin: line.origin,
-            number: line.number,
-            content: line.content,
-        })
+        (self.mark == 1).then(|| line.into())
     }
 
     fn conflict(&self, line: &Line) -> Conflict

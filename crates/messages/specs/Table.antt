@@ -99,6 +99,10 @@ draft_line d = line_with d.key 0 0 0 d.content
 abbrev pub draft_in : Line → Draft
 draft_in l = record { key = l.key; content = l.content }
 
+-- the version that a line shows
+abbrev pub version_in : Line → Version
+version_in l = record { writer = l.writer; origin = l.origin; number = l.number; content = l.content }
+
 abbrev pub shown_line : ℕ → Option Version → Line
 shown_line key None = key_line key
 shown_line key (Some v) = line_with key v.origin v.writer v.number v.content

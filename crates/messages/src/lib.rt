@@ -23,7 +23,9 @@ pub struct Draft {
 }
 
 // Up to eight drafts, in their order. The first `len` places hold them, and the others are blank.
-// A type for this and a frame's bytes is no plainer: each would wrap it, for a ninth draft has a fault and a frame's part always fits.
+// An array with a length: memory is fixed, and messages are copied, which the library's `ArrayVec` is not. One generic type for this,
+// frames and batches is no plainer: each would wrap it, since a ninth draft is refused with a fault and a part of a frame always fits.
+// No invariant in the type: the definitions make drafts of lists of any length, of which such a type could hold only short ones.
 #[derive(Clone, Copy)]
 pub struct Drafts {
     items: [Draft; LINES],
@@ -32,6 +34,7 @@ pub struct Drafts {
 
 // What stands in the way of a draft at its key's home: another transaction holds the key;
 // the key's newest version is not within the bound; the key has as many versions as it can have.
+// Origin, writer and number stand here, in a line and in a version as fields of the format: a struct of them would be no plainer.
 #[derive(Clone, Copy)]
 pub enum Conflict {
     Held {
@@ -101,7 +104,8 @@ pub struct Line {
     pub content: Content,
 }
 
-// The lines of a message that are still to come: one line, or a line for each draft.
+// The lines of a message that are still to come: one line, or a line for each draft. A type of its own, since a function
+// that hands out an `impl Iterator` has no proof today.
 #[derive(Drop)]
 pub struct Lines<'a> {
     only: Option<Line>,

@@ -4,7 +4,7 @@ ghost use Rattle.std.specs.Iterator.{YieldsFirst, item_count};
 ghost use Rattle.std.specs.List.{slice_get};
 ghost use Rattle.messages.specs.Drafting.{counted};
 ghost use Rattle.messages.specs.Limits.{line_limit};
-ghost use Rattle.messages.specs.Table.{kind_number, kind_named, kind_word, allows, kind_of, conflict_mark, mark_of, number_of, key_line, draft_line, draft_in, shown_line, conflict_line, lines_of, lines_left};
+ghost use Rattle.messages.specs.Table.{kind_number, kind_named, kind_word, allows, kind_of, conflict_mark, mark_of, number_of, key_line, draft_line, draft_in, version_in, shown_line, conflict_line, lines_of, lines_left};
 ghost use Rattle.messages.specs.Rules.{Places};
 
 use super::{Body, Conflict, Draft, Drafts, Kind, LINES, Line, Lines, Objection};
@@ -44,17 +44,24 @@ impl fmt::Display for Kind {
     ghost output = { λ kind. Some (kind_word kind) };
 
     fn fmt<W: fmt::Write>(&self, f: &mut fmt::Formatter<W>) -> fmt::Result {
-        f.write_str(match self {
+        f.write_str(self.word())
+    }
+}
+
+impl Kind {
+    // The word that is printed for the kind.
+    pub fn word(self) -> &'static str
+        ensures { result.now ≡ kind_word self }
+    {
+        match self {
             Kind::Query => "query",
             Kind::Answer => "answer",
             Kind::Prepare => "prepare",
             Kind::Vote => "vote",
             Kind::Outcome => "outcome",
-        })
+        }
     }
-}
 
-impl Kind {
     // Whether messages of the kind may have n lines, whatever the mark.
     pub fn allows(self, n: usize) -> bool
         ensures { result ≡ allows self n }
@@ -112,6 +119,20 @@ impl From<Line> for Draft {
     fn from(line: Line) -> Draft {
         Draft {
             key: line.key,
+            content: line.content,
+        }
+    }
+}
+
+// The version that the line shows.
+impl From<&Line> for Version {
+    ghost from_gives = { λ line version. version ≡ version_in line.now };
+
+    fn from(line: &Line) -> Version {
+        Version {
+            writer: line.writer,
+            origin: line.origin,
+            number: line.number,
             content: line.content,
         }
     }

@@ -15,7 +15,7 @@ pub const MAX_READINGS: usize = 4096;
 
 // A transaction: the tower where it began, where it stands, what it may see, whether it has had an answer, what it wants to write,
 // how many votes it awaits, the first vote against it that was delivered, and, once it is granted with drafts, its count at its
-// origin and its place among all that were.
+// origin and its place among all that were. Two options and not one of a pair: what the history says is said of each alone.
 #[derive(Clone, Copy)]
 pub struct Record {
     pub origin: u8,
@@ -62,7 +62,8 @@ pub struct Batch {
     pub len: usize,
 }
 
-// Why a transaction sends to several towers: to ask for votes, or to tell how it ended. Data of a message, which no code switches on.
+// Why a transaction sends to several towers: to ask for votes, or to tell how it ended. An enum and no closure: the
+// definitions say by case which messages are sent, which a closure would hide.
 #[derive(Clone, Copy)]
 pub enum Purpose {
     Prepare,

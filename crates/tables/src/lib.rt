@@ -81,7 +81,8 @@ pub enum Told {
     // a prepare was delivered, and a vote was sent
     Prepared {
         tx: u16,
-        // 0 for yes, else the conflict's mark: a number of the format, told as it stands in the frame and in the listing
+        // 0 for yes, else the conflict's mark: the number that stands in the vote's frame. A conflict would tell more than is told,
+        // and an enum of marks no more than the number.
         mark: u8,
     },
     // a vote was delivered, and others are awaited

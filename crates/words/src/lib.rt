@@ -51,7 +51,7 @@ fn digit(b: u8) -> Option<u8>
     }
 }
 
-// The number that a row of decimal digits writes, leading zeros or not.
+// The number that a row of decimal digits writes, leading zeros or not. (The library's `parse` reads text, and takes a sign.)
 fn value_of(ds: &[u8]) -> Option<u32>
     ensures { MatchOption result (AllDigits 10 ds.now → digits_value 10 ds.now < 2 ^ 32 → ⊥) (λ n. AllDigits 10 ds.now × (n ≡ digits_value 10 ds.now)) }
 {

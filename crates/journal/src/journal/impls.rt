@@ -11,7 +11,8 @@ use faults::Fault;
 use tray::Tray;
 
 impl<'a> Journal<'a> {
-    // A blank journal of the shape. Over memory of another size than the shape's it has no keys.
+    // A blank journal of the shape. Over memory of another size than the shape's it has no keys. (Rows ask more of the memory:
+    // a function for both, given whether it fits, would be no plainer.)
     pub fn blank(shape: Shape, memory: &'a mut [Record]) -> Journal<'a>
         ensures { journal_kept result ≡ blank_over shape (length memory.old == places shape) }
     {
@@ -72,6 +73,7 @@ impl<'a> BookView for Journal<'a> {
     }
 }
 
+// `add` is each make's own: `push` asks for room, which a method of the trait, being public, may not.
 impl<'a> Book for Journal<'a> {
     fn add(&mut self, key: usize, version: Version) -> Result<(), Fault> {
         self.room_for(key)?;

@@ -124,6 +124,7 @@ impl<'a> BookView for Rows<'a> {
     }
 }
 
+// `add` is each make's own: `push` asks for room, which a method of the trait, being public, may not.
 impl<'a> Book for Rows<'a> {
     fn add(&mut self, key: usize, version: Version) -> Result<(), Fault> {
         self.room_for(key)?;
