@@ -1,95 +1,76 @@
 // The listing of a capture.
-// Functions over the text and no `Display`: messages and lines are types of another crate, and their text here is the listing's own.
-ghost use Rattle.std.specs.Prelude.{◌≡◌, ◌++◌, IfOk, string_bytes, OnOk};
+ghost use Rattle.std.specs.Prelude.{◌≡◌, Some, IfOk, string_bytes};
 ghost use Rattle.std.specs.List.{flat_map};
 ghost use Rattle.messages.specs.Table.{lines_of};
-ghost use Rattle.capture.specs.Text.{line_text, head_text, next_entry, clock_text, message_text, said_text, unbroken, numbered, dump_text};
+ghost use Rattle.capture.specs.Text.{line_text, clock_text, message_text, unbroken, dump_text};
 
 use super::hex::interpret;
-use faults::Fault;
-use messages::{Body, Line, Message};
+use messages::{Body, Message};
 use std::alloc::{AllocError, Global};
-use std::fmt::Write;
+use std::fmt;
 
-#[tactic(auto, unfolding(crate::specs::Text::head_text))]
-fn head_text(heap: Global, m: &Message) -> Result<String, AllocError>
-    ensures { IfOk result (λ s. string_bytes s ≡ head_text m.now) }
-{
-    format!(in heap;
-        "kind={} sender={} receiver={} tx={} mark={} number={}",
-        m.body.kind(),
-        m.sender,
-        m.receiver,
-        m.tx,
-        m.body.mark(),
-        m.body.number()
-    )
-}
+// The entries of a clock as they are listed, with commas between them.
+#[derive(Drop)]
+struct ListedClock<'a>(&'a [u32]);
 
-// Adds the entries after the first, each behind a comma.
-fn add_entries(out: &mut String, entries: &[u32]) -> Result<(), AllocError>
-    ensures { OnOk result (string_bytes out.new ≡ string_bytes out.old ++ flat_map next_entry entries.now) }
-{
-    for entry in entries {
-        write!(out, ",{entry}")?;
-    }
-    Ok(())
-}
+impl<'a> fmt::Display for ListedClock<'a> {
+    ghost output = { λ c. Some (clock_text c.0.now) };
 
-fn add_clock(out: &mut String, clock: &[u32]) -> Result<(), AllocError>
-    ensures { OnOk result (string_bytes out.new ≡ string_bytes out.old ++ clock_text clock.now) }
-{
-    let [first, rest @ ..] = clock else {
-        return Ok(());
-    };
-    write!(out, "{first}")?;
-    add_entries(out, rest)
-}
-
-#[tactic(auto, unfolding(crate::specs::Text::line_text))]
-fn add_line(out: &mut String, line: &Line) -> Result<(), AllocError>
-    ensures { OnOk result (string_bytes out.new ≡ string_bytes out.old ++ line_text line.now) }
-{
-    write!(
-        out,
-        " key={} origin={} writer={} number={} value={}",
-        line.key, line.origin, line.writer, line.number, line.content.value
-    )
-}
-
-fn add_lines(out: &mut String, body: &Body) -> Result<(), AllocError>
-    ensures { OnOk result (string_bytes out.new ≡ string_bytes out.old ++ flat_map line_text (lines_of body.now)) }
-{
-    for line in body.iter() {
-        add_line(out, &line)?;
-    }
-    Ok(())
-}
-
-fn message_text(heap: Global, m: &Message) -> Result<String, AllocError>
-    ensures { IfOk result (λ s. string_bytes s ≡ message_text m.now) }
-{
-    let mut out = head_text(heap, m)?;
-    out.push_str(" clock=")?;
-    add_clock(&mut out, &m.clock.entries)?;
-    add_lines(&mut out, &m.body)?;
-    Ok(out)
-}
-
-fn said_text(heap: Global, said: &Result<Message, Fault>) -> Result<String, AllocError>
-    ensures { IfOk result (λ s. string_bytes s ≡ said_text said.now) }
-{
-    match said {
-        Ok(message) => message_text(heap, message),
-        Err(fault) => format!(in heap; "{fault}"),
+    fn fmt<W: fmt::Write>(&self, f: &mut fmt::Formatter<W>) -> fmt::Result {
+        let [first, rest @ ..] = self.0 else {
+            return Ok(());
+        };
+        write!(f, "{first}")?;
+        for entry in rest {
+            write!(f, ",{entry}")?;
+        }
+        Ok(())
     }
 }
 
-#[tactic(auto, unfolding(crate::specs::Text::numbered))]
-fn number_line(heap: Global, n: u64, text: &str) -> Result<String, AllocError>
-    ensures { IfOk result (λ s. string_bytes s ≡ numbered n text.now) }
-{
-    format!(in heap; "line={n} {text}\n")
+// The lines of a message as they are listed.
+#[derive(Drop)]
+struct ListedLines<'a>(&'a Body);
+
+impl<'a> fmt::Display for ListedLines<'a> {
+    ghost output = { λ l. Some (flat_map line_text (lines_of l.0.now)) };
+
+    #[tactic(auto, unfolding(crate::specs::Text::line_text))]
+    fn fmt<W: fmt::Write>(&self, f: &mut fmt::Formatter<W>) -> fmt::Result {
+        for line in self.0.iter() {
+            write!(
+                f,
+                " key={} origin={} writer={} number={} value={}",
+                line.key, line.origin, line.writer, line.number, line.content.value
+            )?;
+        }
+        Ok(())
+    }
+}
+
+// A message as it is listed.
+#[derive(Drop)]
+struct Listed<'a>(&'a Message);
+
+impl<'a> fmt::Display for Listed<'a> {
+    ghost output = { λ l. Some (message_text l.0.now) };
+
+    #[tactic(auto, unfolding(crate::specs::Text::head_text))]
+    fn fmt<W: fmt::Write>(&self, f: &mut fmt::Formatter<W>) -> fmt::Result {
+        let m = self.0;
+        write!(
+            f,
+            "kind={} sender={} receiver={} tx={} mark={} number={} clock={}{}",
+            m.body.kind(),
+            m.sender,
+            m.receiver,
+            m.tx,
+            m.body.mark(),
+            m.body.number(),
+            ListedClock(&m.clock.entries),
+            ListedLines(&m.body)
+        )
+    }
 }
 
 // A line without the line feed that ends it; the last line of a capture may have none.
@@ -103,10 +84,12 @@ fn without_break(line: &[u8]) -> &[u8]
 }
 
 // The line of the listing for the n-th line of a capture, which may end in a line feed.
+#[tactic(auto, unfolding(crate::specs::Text::numbered))]
 pub fn describe(heap: Global, n: u64, line: &[u8]) -> Result<String, AllocError>
     ensures { IfOk result (λ s. string_bytes s ≡ dump_text n line.now) }
 {
-    let said = interpret(heap, without_break(line))?;
-    let text = said_text(heap, &said)?;
-    number_line(heap, n, text.as_str())
+    match interpret(heap, without_break(line))? {
+        Ok(message) => format!(in heap; "line={n} {}\n", Listed(&message)),
+        Err(fault) => format!(in heap; "line={n} {fault}\n"),
+    }
 }
