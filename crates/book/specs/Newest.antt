@@ -18,6 +18,7 @@ abbrev pub newest : Clock → List Version → Option Version
 newest b vs = fold (λ best v. cond (inside b v) (Some v) best) None vs
 
 -- the same as a relation: all that comes after the version is outside the bound, and where there is none, all is
+-- (`AllByRecursion` and not the library's `All`, since the lemmas go by recursion on the list)
 abbrev pub LastWithin : Clock → List Version → Option Version → Type 0
 LastWithin b vs (Some v) = (before : List Version) × (after : List Version) × (vs ≡ before ++ (v ∷ after)) × Inside b v × AllByRecursion (λ w. Inside b w → ⊥) after
 LastWithin b vs None = AllByRecursion (λ w. Inside b w → ⊥) vs

@@ -71,7 +71,7 @@ impl Frame {
 }
 
 // The frame of a message; refused if a field breaks a rule.
-// `write` and `read` are what is done with a frame; as `TryFrom` they would hide that, since bytes have no type of their own.
+// `write` and `read` say what is done with a frame, and documents name them so; `TryFrom` would say less of it.
 pub fn write(message: &Message) -> Result<Frame, Fault>
     ensures value { result ≡ written message.now }
     ensures typed { OnOk result (Typed message.now) }

@@ -1,4 +1,5 @@
--- Lists and maps, as the protocol needs them.
+-- Lists and maps, as the protocol needs them. The library has words for some of them (`count_by`, `Contains`, `remove`, `update`)
+-- with other clauses; the proofs compute by the clauses that stand here.
 use Rattle.std.specs.Prelude.{◌≡◌, ℕ, zero, suc, ◌+◌, Bool, cond, ◌⊎◌, List, [], ◌∷◌, Some, None, Option, ◌==◌}
 use Rattle.std.specs.Option.{option_or}
 

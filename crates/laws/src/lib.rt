@@ -1,5 +1,5 @@
 // The laws of a net: what holds of every run of calls, and of what the net then holds.
-// Each law is promised by a function of its own, whose name it is cited by.
+// Each law is promised by a function of its own, whose name it is cited by; one function for all would be no plainer.
 #![tactic(auto)]
 
 ghost use Rattle.laws.specs.Laws.{LawsStand};

@@ -34,7 +34,8 @@ pub struct Drafts {
 
 // What stands in the way of a draft at its key's home: another transaction holds the key;
 // the key's newest version is not within the bound; the key has as many versions as it can have.
-// Origin, writer and number stand here, in a line and in a version as fields of the format: a struct of them would be no plainer.
+// Origin, writer and number stand here, in a line and in a version as fields of the format: a struct of them would be no plainer,
+// since each says them beside other fields and is read and written field by field.
 #[derive(Clone, Copy)]
 pub enum Conflict {
     Held {

@@ -6,6 +6,7 @@ mod calls;
 mod take;
 
 // A line, and the place from which it is still to be read: past its end no field is left, but an empty last field counts.
+// A lent text with a place, as of a script in `Reader`: a rule of the project.
 #[derive(Drop)]
 pub(crate) struct Fields<'a> {
     line: &'a [u8],

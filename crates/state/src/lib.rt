@@ -55,7 +55,8 @@ pub struct Tables<'a> {
     pub readings: Tray<'a, Reading>,
 }
 
-// Frames that are sent together, of which the first `len` count. The array is fixed, as a call takes no memory from a heap.
+// Frames that are sent together, of which the first `len` count. The array is fixed, as a call takes no memory from a heap, and
+// has no type in common with drafts and frames for the reason that stands at a message's drafts.
 #[derive(Clone, Copy)]
 pub struct Batch {
     pub frames: [Frame; TOWERS],

@@ -73,7 +73,8 @@ impl<'a> BookView for Journal<'a> {
     }
 }
 
-// `add` is each make's own: `push` asks for room, which a method of the trait, being public, may not.
+// `add` is each make's own: `push` asks for room, which a method of the trait, being public, may not, and one that tested for
+// room again would test twice.
 impl<'a> Book for Journal<'a> {
     fn add(&mut self, key: usize, version: Version) -> Result<(), Fault> {
         self.room_for(key)?;

@@ -124,7 +124,8 @@ impl<'a> BookView for Rows<'a> {
     }
 }
 
-// `add` is each make's own: `push` asks for room, which a method of the trait, being public, may not.
+// `add` is each make's own: `push` asks for room, which a method of the trait, being public, may not, and one that tested for
+// room again would test twice.
 impl<'a> Book for Rows<'a> {
     fn add(&mut self, key: usize, version: Version) -> Result<(), Fault> {
         self.room_for(key)?;

@@ -1,3 +1,4 @@
+-- A rule set of these lemmas was tried in place of the terms; the goals at a `?` stayed open, as in the other fields' answers.
 use Rattle.std.proofs.Common.{arith}
 use Rattle.words.specs.declared.Name.TheVariants.{Tx}
 use Rattle.script.proofs.Faulty.{at_break, then-number}
