@@ -1,13 +1,21 @@
 -- What a tray holds is the front of its memory, `take n xs`.
-use Rattle.std.proofs.Common.{◌≡◌, ℕ, suc, ◌+◌, ◌-◌, ◌<◌, ◌≤◌, List, ◌++◌, length, take, drop, set, sym, ap, ◌∙◌, add-one, arith}
+use Rattle.std.proofs.Common.{◌≡◌, ℕ, suc, ◌+◌, ◌-◌, ◌<◌, ◌≤◌, List, ◌++◌, length, take, drop, set, sym, ap, ◌∙◌, inl, inr, add-one, arith}
 use lib.Seq.{paste, take-set-lt}
-use Rattle.std.proofs.lemmas.List.{length-take, length-drop, take_all, drop_all, append-nil, take-take, drop-take}
+use Rattle.std.proofs.lemmas.List.{length-take, length-take-le, length-drop, take_all, drop_all, append-nil, take-take, drop-take}
 use Rattle.std.proofs.lemmas.List.Edits.{take-paste}
+use Rattle.std.proofs.lemmas.Bool.{cases_lt}
 use Rattle.std.specs.List.{remove}
 
 module _ {X : Type 0} (xs : List X) (n : ℕ) where
   pub front_le : (length (take n xs) ≤ length xs) × (length (take n xs) ≤ n)
   front_le = let e = length-take n xs in (omega arith, omega arith)
+
+  -- as many as the front has are the front
+  pub front_again : take (length (take n xs)) xs ≡ take n xs
+  front_again = elim (cases_lt n (length xs)) [
+    | inl less ↦ ap (λ m. take m xs) (length-take-le n xs (omega arith))
+    | inr more ↦ let e = take_all n xs more in ap (λ ys. take (length ys) xs) e ∙ take_all (length xs) xs (omega arith) ∙ sym e
+  ]
 
   pub set_in : (i : ℕ) (x : X) → i < length (take n xs) → take n (set xs i x) ≡ set (take n xs) i x
   set_in i x h = let l = front_le in take-set-lt n xs i x (omega arith)

@@ -1,4 +1,4 @@
-// Closures over a tray: a caller needs no proof of its own.
+// Closures over a tray, and a tray taken by value: a caller needs no proof of its own.
 ghost use Rattle.std.specs.Prelude.{◌≡◌, not, filter, ◌==◌};
 ghost use Rattle.tray.specs.Contents.{contents, place_from};
 
@@ -18,6 +18,12 @@ fn position_of(tray: &Tray<'_, u8>, x: u8) -> Option<usize>
     tray.find(|y| *y == x)
 }
 
+// A tray that is taken by value can be changed.
+fn taken_with(mut tray: Tray<'_, u8>, x: u8) -> usize {
+    let _ = tray.add(x);
+    tray.len()
+}
+
 #[test]
 fn closures_test_the_elements(rt: HostRuntime) {
     let mut memory = [0; 4];
@@ -29,4 +35,5 @@ fn closures_test_the_elements(rt: HostRuntime) {
     without(&mut tray, 7);
     assert!(rt; tray.as_slice() == [5].as_slice());
     assert_eq!(rt; position_of(&tray, 7), None);
+    assert_eq!(rt; taken_with(tray, 3), 2);
 }

@@ -15,10 +15,18 @@ impl<'a, T: Copy> Tray<'a, T> {
     }
 
     // How many places are taken.
+    fn used(&self) -> usize
+        ensures count { result ≡ length (contents self.now) }
+        ensures within { result ≤ room self.now }
+        ensures front { take result self.now.items.now ≡ contents self.now }
+    {
+        self.len.min(self.items.len())
+    }
+
     pub fn len(&self) -> usize
         ensures { result ≡ length (contents self.now) }
     {
-        self.as_slice().len()
+        self.used()
     }
 
     // How many elements have a place.
@@ -31,8 +39,9 @@ impl<'a, T: Copy> Tray<'a, T> {
     pub fn as_slice(&self) -> &[T]
         ensures { result.now ≡ contents self.now }
     {
+        let n = self.used();
         let items = &*self.items;
-        &items[..self.len]
+        &items[..n]
     }
 
     // What stands at i, if anything does.
@@ -49,7 +58,7 @@ impl<'a, T: Copy> Tray<'a, T> {
         ensures space { room self.new ≡ room self.old }
     {
         // A test of i, since a slice's `get_mut` does not promise what a write through it leaves.
-        if i < self.len {
+        if i < self.used() {
             self.items[i] = x;
             Ok(())
         } else {
@@ -63,7 +72,7 @@ impl<'a, T: Copy> Tray<'a, T> {
         ensures after { contents self.new ≡ (if full self.old then contents self.old else pushed (contents self.old) x) }
         ensures space { room self.new ≡ room self.old }
     {
-        let n = self.len;
+        let n = self.used();
         if n < self.items.len() {
             self.items[n] = x;
             self.len = n + 1;
@@ -80,7 +89,7 @@ impl<'a, T: Copy> Tray<'a, T> {
         ensures space { room self.new ≡ room self.old }
     {
         let x = self.get(i)?;
-        let n = self.len;
+        let n = self.used();
         close_gap(self.items, n, i);
         self.len = n - 1;
         Some(x)
@@ -100,7 +109,7 @@ impl<'a, T: Copy> Tray<'a, T> {
         ensures after { (keeps : T → Bool) → Computes F.Fn rule keeps → contents self.new ≡ filter keeps (contents self.old) }
         ensures space { room self.new ≡ room self.old }
     {
-        let n = self.len;
+        let n = self.used();
         self.len = sift(self.items, n, rule);
     }
 
@@ -109,7 +118,7 @@ impl<'a, T: Copy> Tray<'a, T> {
         requires { F.IsAlwaysCallable rule }
         ensures { (keeps : T → Bool) → Computes F.Fn rule keeps → result ≡ place_from keeps 0 (contents self.now) }
     {
-        self.as_slice().iter().position(|x| rule(x))
+        first_passing(self.as_slice(), rule)
     }
 }
 
@@ -139,4 +148,12 @@ fn sift<T: Copy, F: Fn(&T) -> bool>(items: &mut [T], n: usize, rule: F) -> usize
         }
     }
     passed
+}
+
+// The position of the first of the items that passes the rule.
+fn first_passing<T, F: Fn(&T) -> bool>(items: &[T], rule: F) -> Option<usize>
+    requires { F.IsAlwaysCallable rule }
+    ensures { (keeps : T → Bool) → Computes F.Fn rule keeps → result ≡ place_from keeps 0 items.now }
+{
+    items.iter().position(|x| rule(x))
 }
