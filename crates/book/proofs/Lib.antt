@@ -1,3 +1,4 @@
 pub mod Blanks
 pub mod Lasts
+pub mod Refusals
 pub mod Sames

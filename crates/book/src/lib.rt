@@ -5,6 +5,7 @@ mod blank;
 mod newest;
 mod shape;
 mod traits;
+mod views;
 
 pub use blank::is_blank;
 pub use newest::{newest_examples, newest_of};

@@ -30,12 +30,11 @@ pub fn newest_examples() -> [Option<Version>; 3]
         content: Content { value: 6 },
     };
     let list = [older, newer];
-    let first = Clock {
-        entries: [1, 0, 0, 0, 0, 0, 0, 0],
-    };
-    let both = Clock {
-        entries: [1, 1, 0, 0, 0, 0, 0, 0],
-    };
+    let mut first = Clock::default();
+    first.entries[0] = 1;
+    let mut both = Clock::default();
+    both.entries[0] = 1;
+    both.entries[1] = 1;
     let none = Clock::default();
     [
         newest_of(&list, &first),

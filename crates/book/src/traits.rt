@@ -13,13 +13,16 @@ pub trait BookView {
     // What the book holds: its two numbers, and the list of each key.
     ghost kept: { Self → Kept };
 
-    // How many keys the book has. They are numbered from 0.
+    // How many keys the book has. They are numbered from 0, and a number past them has no versions. (The law `outside` says so
+    // too; a caller of a `dyn` book has no laws, and has it from here.)
     fn keys(&self) -> usize
-        ensures { result ≡ (kept self.now).keys };
+        ensures value { result ≡ (kept self.now).keys }
+        ensures outside { Outside (kept self.now) };
 
-    // How many versions a key can have.
+    // How many versions a key can have. None has more. (The law `short` says so too.)
     fn depth(&self) -> usize
-        ensures { result ≡ (kept self.now).depth };
+        ensures value { result ≡ (kept self.now).depth }
+        ensures short { Short (kept self.now) };
 
     // How many versions the list of the key has. The list of a key that is not there is empty.
     fn list_len(&self, key: usize) -> usize

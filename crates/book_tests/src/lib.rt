@@ -1,6 +1,8 @@
 // The rules of books, tried on both.
 #![tactic(auto)]
 
+ghost use Rattle.std.specs.Prelude.{◌≡◌, true};
+
 #[cfg(test)]
 mod tests {
     use book::{Book, BookView, Shape, is_blank};
@@ -28,9 +30,10 @@ mod tests {
 
     // The clock whose first two entries are given.
     fn bound(first: u32, second: u32) -> Clock {
-        Clock {
-            entries: [first, second, 0, 0, 0, 0, 0, 0],
-        }
+        let mut clock = Clock::default();
+        clock.entries[0] = first;
+        clock.entries[1] = second;
+        clock
     }
 
     // The number of the fault, if there is one.
@@ -42,6 +45,20 @@ mod tests {
     fn shown<B: Book>(book: &B, first: u32, second: u32) -> Option<u32> {
         let newest = book.newest_within(1, &bound(first, second));
         newest.ok().flatten().map(|version| version.content.value)
+    }
+
+    // Of a book behind `dyn` the laws of its trait are not known: no key has more versions than the depth, by what `depth` promises.
+    fn never_over(book: &dyn BookView, key: usize) -> bool
+        ensures { result ≡ true }
+    {
+        book.count(key).unwrap_or(0) <= book.depth()
+    }
+
+    // And a number past the keys has none, by what `keys` promises.
+    fn none_past(book: &dyn BookView, key: usize) -> bool
+        ensures { result ≡ true }
+    {
+        key < book.keys() || book.list_len(key) == 0
     }
 
     fn rules<B: Book>(rt: &impl Abort, book: &mut B) {
@@ -69,6 +86,8 @@ mod tests {
         let shape = Shape::new(KEYS, DEPTH, PLACES)?;
         let mut book = Journal::blank(shape, &mut memory);
         rules(&rt, &mut book);
+        assert!(rt; never_over(&book, 1));
+        assert!(rt; none_past(&book, KEYS));
         Ok(())
     }
 
@@ -79,6 +98,8 @@ mod tests {
         let shape = Rows::shape(KEYS, DEPTH, &counts, &versions)?;
         let mut book = Rows::blank(shape, &mut counts, &mut versions);
         rules(&rt, &mut book);
+        assert!(rt; never_over(&book, 1));
+        assert!(rt; none_past(&book, KEYS));
         Ok(())
     }
 

@@ -17,12 +17,14 @@ mod tests {
     fn outcome(tx: u16) -> Message {
         let mut drafts = Drafts::new();
         let _ = drafts.push(draft(3, 9));
-        let entries = [1, 2, 0, 0, 0, 0, 0, 0];
+        let mut clock = Clock::default();
+        clock.entries[0] = 1;
+        clock.entries[1] = 2;
         Message {
             sender: 1,
             receiver: 0,
             tx,
-            clock: Clock { entries },
+            clock,
             body: Body::Outcome {
                 granted: Some(Grant { number: 2, drafts }),
             },
