@@ -250,14 +250,14 @@ impl Body {
         ensures few { result ≤ line_limit }
         ensures places { Places self.now }
     {
-        self.iter().count()
+        self.iter().len()
     }
 
     // The line at an index from 0.
     pub fn line(&self, index: usize) -> Option<Line>
         ensures { result ≡ slice_get (lines_of self.now) index }
     {
-        self.iter().nth(index)
+        self.iter().get(index)
     }
 }
 
@@ -277,6 +277,26 @@ impl<'a> Lines<'a> {
         Lines {
             only: Some(line),
             drafts: &[],
+        }
+    }
+
+    // How many there are, without making them.
+    fn len(&self) -> usize
+        ensures { result ≡ length (lines_left self.now) }
+    {
+        usize::from(self.only.is_some()) + self.drafts.len()
+    }
+
+    // The line at an index of them, without making those before it.
+    fn get(&self, index: usize) -> Option<Line>
+        ensures { result ≡ slice_get (lines_left self.now) index }
+    {
+        let Some(line) = self.only else {
+            return self.drafts.get(index).map(Line::from);
+        };
+        match index.checked_sub(1) {
+            Some(later) => self.drafts.get(later).map(Line::from),
+            None => Some(line),
         }
     }
 
