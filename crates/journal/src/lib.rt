@@ -3,6 +3,7 @@
 
 mod journal;
 mod record;
+mod search;
 
 pub use journal::Journal;
 pub use record::Record;
