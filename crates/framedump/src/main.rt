@@ -6,10 +6,16 @@ use std::io;
 use std::io::{BufRead, BufReader, BufWriter, Write};
 
 fn main(rt: HostRuntime) -> io::Result<()> {
-    let input = BufReader::new(rt.alloc(), rt.stdin())?;
+    let mut input = BufReader::new(rt.alloc(), rt.stdin())?;
     let mut output = BufWriter::new(rt.alloc(), rt.stdout())?;
-    for (n, line) in (1..u64::MAX).zip(input.split(rt.alloc(), b'\n')) {
-        let text = describe(rt.alloc(), n, line?.as_slice())?;
+    // One vector for all lines: the library's `split` makes one for each, and takes twice the memory where lines are long.
+    let mut line = Vec::new(rt.alloc());
+    for n in 1..u64::MAX {
+        line.clear();
+        if input.read_until(b'\n', &mut line)? == 0 {
+            break;
+        }
+        let text = describe(rt.alloc(), n, line.as_slice())?;
         output.write_all(text.as_bytes())?;
     }
     output.flush()
