@@ -61,14 +61,6 @@ listed (r ∷ rs) k = elim (eqb r.key k) as (λ t. cond t (r.version ∷ list_of
   | false ↦ listed rs k
 ]
 
--- a count that goes up at each record of the key
-pub counted : (rs : List Record) (k n : ℕ) → fold (λ n r. cond (eqb r.key k) (n + 1) n) n rs ≡ n + length (list_of rs k)
-counted [] k n = omega arith
-counted (r ∷ rs) k n = elim (eqb r.key k) as (λ t. fold (λ n r. cond (eqb r.key k) (n + 1) n) (cond t (n + 1) n) rs ≡ n + length (cond t (r.version ∷ list_of rs k) (list_of rs k))) [
-  | true ↦ let e = counted rs k (n + 1) in omega (arith, e)
-  | false ↦ counted rs k n
-]
-
 -- a record of the key whose version is within the bound
 abbrev pub hit : Clock → ℕ → Record → Bool
 hit b k r = eqb r.key k && inside b r.version

@@ -5,7 +5,7 @@ ghost use Rattle.journal.specs.Journals.{journal_kept};
 
 use super::Journal;
 use crate::record::Record;
-use crate::search::look_up;
+use crate::search::{count_of, look_up};
 use book::{Book, BookView, Shape};
 use clocks::{Clock, Version};
 use faults::Fault;
@@ -56,10 +56,8 @@ impl<'a> BookView for Journal<'a> {
         self.depth
     }
 
-    // A fold, since the library's `filter(..).count()` takes twice the instructions.
     fn list_len(&self, key: usize) -> usize {
-        let records = self.records.as_slice().iter();
-        records.fold(0, |n, r| if r.key == key { n + 1 } else { n })
+        count_of(self.records.as_slice(), key)
     }
 
     fn list_get(&self, key: usize, index: usize) -> Option<Version> {
