@@ -17,7 +17,8 @@ use Rattle.std.proofs.lemmas.List.{drop-drop, drop_all, length-append, length-dr
 use Rattle.std.proofs.lemmas.List.Prefix.{front_rest}
 use Rattle.std.proofs.lemmas.List.Splits.{slice_split_at, slice_split_none}
 use Rattle.script.specs.Grammar.{fields_of, lines_of, onto, placed, words_of}
-use Rattle.script.specs.Readers.{left, texts}
+use Rattle.script.specs.Readers.{ahead, left, texts}
+use Rattle.script.specs.declared.reader.Reader.{Reader}
 
 -- no byte of w is `sep`
 abbrev pub Free : ℕ → List ℕ → Type 0
@@ -83,6 +84,10 @@ line_taken text at x h (all f e) =
     let none : drop (at + (length x + 1)) text ≡ [] = drop_all (at + (length x + 1)) text (omega arith) in
     rw (none, e) (lines_free x (omega arith) f)
 line_taken text at x h (front more f e) = rw (after 10 x text at more e, e) (lines_front x more f)
+
+-- a reader that goes on behind the line x has before it what it had but x
+pub line_passed : (r : Reader) (behind : ℕ) (x : List ℕ) → behind ≡ r.at + (length x + 1) → lines_of (drop r.at r.text.now) ≡ x ∷ lines_of (drop (r.at + (length x + 1)) r.text.now) → ahead r ≡ x ∷ ahead (record { text = r.text; at = behind })
+line_passed r behind x a l = rw a l
 
 pub field_taken : (line : List ℕ) (at : ℕ) (x : List ℕ) → at ≤ length line → First 32 x (drop at line) → left line at ≡ record { start = at; bytes = x } ∷ left line (at + (length x + 1))
 unfolding left
